@@ -1,0 +1,4 @@
+pub mod Causes
+pub mod MemoryShelf
+pub mod MemorySink
+pub mod Outside

@@ -1,0 +1,43 @@
+-- Folders of tables in memory, as their users see them.
+use Rattle.std.specs.Prelude.{ℕ, List, [], ◌∷◌, Bool, ◌==◌, ◌&&◌, Option, Some, None, if◌then◌else◌}
+use Rattle.std.specs.Str.{bytes_eq}
+use Rattle.ra_base.specs.Outside.{Tables}
+use Rattle.ra_base.specs.declared.table.TableName.{TableName}
+use Rattle.ra_base.specs.declared.table.TableName.TheVariants.{Zones, Units, Interfaces, Lines, Storages, Load, Variable}
+use Rattle.ra_base.specs.declared.memory_shelf.Entry.{Entry}
+use Rattle.ra_base.specs.declared.memory_shelf.MemoryShelf.{MemoryShelf}
+
+-- the place of a table in their order, which tells them apart
+abbrev pub place_of : TableName → ℕ
+place_of Zones = 0
+place_of Units = 1
+place_of Interfaces = 2
+place_of Lines = 3
+place_of Storages = 4
+place_of Load = 5
+place_of Variable = 6
+
+-- whether two folders and tables are the same
+abbrev pub is_same : List ℕ → TableName → List ℕ → TableName → Bool
+is_same folder table f t = (place_of table == place_of t) && bytes_eq folder f
+
+-- the tables where one of them has other bytes, and all else stays
+abbrev pub with_table : Tables → List ℕ → TableName → List ℕ → Tables
+with_table tables folder table bytes f t = if is_same folder table f t then Some bytes else tables f t
+
+-- what entries hold, the newest first
+abbrev pub shelved : List Entry → Tables
+shelved [] f t = None
+shelved (e ∷ es) f t = with_table (shelved es) e.folder e.table e.bytes f t
+
+-- what a shelf in memory holds
+abbrev pub tables_of : MemoryShelf → Tables
+tables_of shelf = shelved shelf.entries.items
+
+-- the numbers of the calls that are to fail
+abbrev pub failing_of : MemoryShelf → List ℕ
+failing_of shelf = shelf.failing.items
+
+-- how many reads there were
+abbrev pub calls_of : MemoryShelf → ℕ
+calls_of shelf = shelf.calls

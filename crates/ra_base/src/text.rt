@@ -1,0 +1,48 @@
+ghost use Rattle.std.specs.Prelude.{◌≡◌, ◌++◌, [], OnOk, OnErr};
+
+use crate::OutOfMemory;
+use std::alloc::Global;
+use std::marker::Model;
+
+/// A list of bytes: a table, a name or a text that is written.
+#[derive(Drop)]
+pub struct Text {
+    bytes: Vec<u8>,
+}
+
+impl Model for Text {
+    ghost use Rattle.std.specs.Prelude.{List, ℕ};
+
+    ghost Value = { List ℕ };
+
+    ghost view = { λ text. text.bytes.items };
+}
+
+impl Text {
+    /// The empty text. It takes no memory.
+    pub fn new(alloc: Global) -> Text
+        ensures { result ≡ [] }
+    {
+        Text {
+            bytes: Vec::new(alloc),
+        }
+    }
+
+    /// Appends a piece. Without memory the text stays as it was.
+    pub fn push(&mut self, piece: &[u8]) -> Result<(), OutOfMemory>
+        ensures ok { OnOk result (self.new ≡ self.old ++ piece.now) }
+        ensures err { OnErr result (self.new ≡ self.old) }
+    {
+        match self.bytes.extend_from_slice(piece) {
+            Ok(()) => Ok(()),
+            Err(_) => Err(OutOfMemory),
+        }
+    }
+
+    /// The bytes.
+    pub fn bytes(&self) -> &[u8]
+        ensures { result.now ≡ self.now }
+    {
+        &self.bytes
+    }
+}
