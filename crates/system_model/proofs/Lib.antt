@@ -1,0 +1,3 @@
+pub mod HourLists
+pub mod DraftSteps
+pub mod SystemReads
