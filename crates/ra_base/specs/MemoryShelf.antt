@@ -41,3 +41,7 @@ failing_of shelf = shelf.failing.items
 -- how many reads there were
 abbrev pub calls_of : MemoryShelf → ℕ
 calls_of shelf = shelf.calls
+
+-- how often a table was missing, was too long, and how often a read failed
+abbrev pub counts_of : MemoryShelf → ℕ × ℕ × ℕ
+counts_of shelf = (shelf.misses, shelf.overlong, shelf.faults)

@@ -3,7 +3,7 @@ ghost use Rattle.std.specs.Option.{option_copied};
 ghost use Rattle.ra_base.specs.Causes.{Counts};
 ghost use Rattle.ra_base.specs.Outside.{ReadsAs, is_missing, is_too_long, is_read_fault};
 ghost use Rattle.ra_base.specs.declared.table.TableName.{TableName};
-ghost use Rattle.ra_base.specs.MemoryShelf.{tables_of, failing_of, calls_of, with_table, shelved, is_same};
+ghost use Rattle.ra_base.specs.MemoryShelf.{tables_of, failing_of, calls_of, counts_of, with_table, shelved, is_same};
 
 use crate::{OutOfMemory, Shelf, ShelfError, TableName, Text};
 use std::alloc::Global;
@@ -39,6 +39,7 @@ impl MemoryShelf {
         ensures tables { (folder : List ℕ) (table : TableName) → tables_of result folder table ≡ None }
         ensures failing { failing_of result ≡ [] }
         ensures calls { calls_of result ≡ 0 }
+        ensures counts { counts_of result ≡ (0, 0, 0) }
     {
         MemoryShelf {
             alloc,
@@ -57,6 +58,7 @@ impl MemoryShelf {
         ensures err { OnErr result (tables_of self.new ≡ tables_of self.old) }
         ensures failing { failing_of self.new ≡ failing_of self.old }
         ensures calls { calls_of self.new ≡ calls_of self.old }
+        ensures counts { counts_of self.new ≡ counts_of self.old }
     {
         let mut entry = Entry {
             folder: Text::new(self.alloc),
@@ -79,6 +81,7 @@ impl MemoryShelf {
         ensures err { OnErr result (failing_of self.new ≡ failing_of self.old) }
         ensures tables { tables_of self.new ≡ tables_of self.old }
         ensures calls { calls_of self.new ≡ calls_of self.old }
+        ensures counts { counts_of self.new ≡ counts_of self.old }
     {
         match self.failing.push(call) {
             Ok(()) => Ok(()),
