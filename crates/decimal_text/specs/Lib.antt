@@ -1,0 +1,4 @@
+pub mod Numeral
+pub mod Faults
+pub mod Reading
+pub mod DecimalText
