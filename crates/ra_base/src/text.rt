@@ -28,6 +28,15 @@ impl Text {
         }
     }
 
+    /// An empty text that will take its memory where this one does. It takes none itself.
+    pub fn fresh(&self) -> Text
+        ensures { result ≡ [] }
+    {
+        Text {
+            bytes: Vec::new(*self.bytes.allocator()),
+        }
+    }
+
     /// Appends a piece. Without memory the text stays as it was.
     pub fn push(&mut self, piece: &[u8]) -> Result<(), OutOfMemory>
         ensures ok { OnOk result (self.new ≡ self.old ++ piece.now) }
