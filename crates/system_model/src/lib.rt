@@ -11,3 +11,6 @@ mod systems;
 pub use components::{Rates, Unit};
 pub use drafts::Draft;
 pub use systems::System;
+
+#[cfg(test)]
+mod tests;
