@@ -1,0 +1,4 @@
+pub mod States
+pub mod Grid
+pub mod Table
+pub mod Refusal

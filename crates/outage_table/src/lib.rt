@@ -1,0 +1,14 @@
+//! The capacity outage table of a pool of generating units, after Billinton and Allan: for each MW
+//! the enclosed probability that at least so much capacity is out, built unit by unit.
+#![tactic(auto)]
+
+mod entries;
+mod error;
+mod limits;
+mod table;
+mod units;
+
+pub use error::AddError;
+pub use limits::LARGEST_TOTAL;
+pub use table::OutageTable;
+pub use units::PooledUnit;
