@@ -1,0 +1,4 @@
+pub mod CutRowsLemmas
+pub mod Counting
+pub mod ResultsLemmas
+pub mod EstimatesLemmas

@@ -1,0 +1,378 @@
+use Rattle.std.proofs.Common.{◌≡◌, ℕ, zero, suc, ◌+◌, ◌-◌, ◌*◌, ◌/◌, ◌%◌, ◌^◌, ◌<◌, ◌≤◌, Bool, true, false, not, ◌&&◌, cond, eqb, ltb, List, [], ◌∷◌, ◌++◌, length, get_or, set, replicate, Option, Some, None, refl, sym, ap, ◌∙◌, arith, subst, ⊎_elim, inl, inr, ◌⊎◌}
+use Rattle.std.specs.Prelude.{map, sum, sum_by, count_by}
+use Rattle.std.specs.List.{range_with_len}
+use Rattle.std.proofs.lemmas.List.{get_or_append_left, get_or_past, length-append, length-replicate, length-set}
+use Rattle.std.proofs.Math.Seq.{get_or-append_seam}
+use Rattle.std.proofs.lemmas.List.Sums.{sum_by_push, sum_by-cons}
+use Rattle.std.proofs.lemmas.Bool.{cases_Bool, cases_eq, cases_lt, eq-eqb, ne_eqb, lt-ltb, le-ltb, cond-true, cond-false}
+use Rattle.sample_run.specs.declared.cut_rows.CutRow.{CutRow}
+use Rattle.sample_run.specs.CutRows.{rows_of, hours_at, unserved_at, AreRows, AddsRows, masks}
+use Rattle.sample_run.proofs.CutRowsLemmas.{rows_are, hours_at-none, unserved_at-none, hours_at-one, unserved_at-one, AreRows-rows_of, hours_at-rows_of, unserved_at-rows_of}
+use Rattle.sample_run.specs.Results.{HourOutcome, no_outcome, one_zone_outcome, is_short, is_short_at, is_short_day, is_short_before, short_hours, short_days, short_events, unserved_energy, zone_energy, cut_hours, cut_energy, Figures, figures_of, last_short_below, Tally, tally_of, is_same_day, is_next_hour, IsInRange}
+use Rattle.sample_run.proofs.Counting.{count_to, count_more, count_same, count_changed, any_same, any_none, any_at}
+
+-- ---- single hours, before and after one more
+short-old : (run : List HourOutcome) (o : HourOutcome) (h : ℕ) → h < length run → is_short_at (run ++ o ∷ []) h ≡ is_short_at run h
+unfolding is_short_at
+short-old run o h l = ap is_short (get_or_append_left run (o ∷ []) no_outcome h l)
+
+short-new : (run : List HourOutcome) (o : HourOutcome) → is_short_at (run ++ o ∷ []) (length run) ≡ is_short o
+unfolding is_short_at
+short-new run o = ap is_short (get_or-append_seam run o [] no_outcome)
+
+short-past : (run : List HourOutcome) (h : ℕ) → length run ≤ h → is_short_at run h ≡ false
+unfolding is_short_at
+short-past run h l = ap is_short (get_or_past run h no_outcome l)
+
+length-more : (run : List HourOutcome) (o : HourOutcome) → length (run ++ o ∷ []) ≡ suc (length run)
+length-more run o = omega (arith, length-append run (o ∷ []))
+
+-- an hour that isn't the new one
+short-other : (run : List HourOutcome) (o : HourOutcome) (h : ℕ) → (h ≡ length run → ⊥) → is_short_at (run ++ o ∷ []) h ≡ is_short_at run h
+short-other run o h ne =
+    ⊎_elim
+    (λ (l : h < length run). short-old run o h l)
+    (λ (g : length run ≤ h). let far : length (run ++ o ∷ []) ≤ h = omega (arith, length-more run o, ne) in short-past (run ++ o ∷ []) h far ∙ sym (short-past run h g))
+    (cases_lt h (length run))
+
+-- ---- days
+day-same : (run run' : List HourOutcome) (day : ℕ) → ((h : ℕ) → h < 24 → is_short_at run' (24 * day + h) ≡ is_short_at run (24 * day + h)) → is_short_day run' day ≡ is_short_day run day
+unfolding is_short_day
+day-same run run' day h = any_same (λ hour. is_short_at run' (24 * day + hour)) (λ hour. is_short_at run (24 * day + hour)) 24 h
+
+day-none : (run : List HourOutcome) (day : ℕ) → ((h : ℕ) → h < 24 → is_short_at run (24 * day + h) ≡ false) → is_short_day run day ≡ false
+unfolding is_short_day
+day-none run day h = any_none (λ hour. is_short_at run (24 * day + hour)) 24 h
+
+day-at : (run : List HourOutcome) (day h : ℕ) → h < 24 → is_short_at run (24 * day + h) ≡ true → is_short_day run day ≡ true
+unfolding is_short_day
+day-at run day h l holds = any_at (λ hour. is_short_at run (24 * day + hour)) 24 h l holds
+
+-- the day of an hour that falls short
+day-of : (run : List HourOutcome) (h : ℕ) → is_short_at run h ≡ true → is_short_day run (h / 24) ≡ true
+day-of run h holds =
+    let e : 24 * (h / 24) + h % 24 ≡ h = omega arith in
+    day-at run (h / 24) (h % 24) (omega arith) (rw e holds)
+
+-- ---- the last hour that fell short
+pub data Last (run : List HourOutcome) : ℕ → Option ℕ → Type 0 where
+  never : (n : ℕ) → ((k : ℕ) → k < n → is_short_at run k ≡ false) → Last run n None
+  at : (n l : ℕ) → l < n → is_short_at run l ≡ true → ((k : ℕ) → l < k → k < n → is_short_at run k ≡ false) → Last run n (Some l)
+
+pub last-is : (run : List HourOutcome) (n : ℕ) → Last run n (last_short_below run n)
+unfolding last_short_below
+last-is run zero = never zero (λ k l. absurd (omega arith))
+last-is run (suc n) =
+    ⊎_elim
+    (λ (holds : is_short_at run n ≡ true). rw holds (at (suc n) n (omega arith) holds (λ k g l. absurd (omega arith))))
+    (λ (fails : is_short_at run n ≡ false). rw fails (go (last_short_below run n) fails (last-is run n)))
+    (cases_Bool (is_short_at run n))
+  where
+    go : (o : Option ℕ) → is_short_at run n ≡ false → Last run n o → Last run (suc n) o
+    go None fails (never n' all) = never (suc n) (λ k l. ⊎_elim (λ (e : k ≡ n). rw e fails) (λ (ne : k ≡ n → ⊥). all k (omega (arith, ne))) (cases_eq k n))
+    go (Some l) fails (at n' l' below holds all) = at (suc n) l (omega arith) holds (λ k g b. ⊎_elim (λ (e : k ≡ n). rw e fails) (λ (ne : k ≡ n → ⊥). all k g (omega (arith, ne))) (cases_eq k n))
+
+pub same_day-is : (run : List HourOutcome) (n : ℕ) (last : Option ℕ) → length run ≤ n → Last run n last → is_short_day run (n / 24) ≡ is_same_day last n
+same_day-is run n None end (never n' all) =
+    day-none run (n / 24) (λ h l. ⊎_elim
+      (λ (below : 24 * (n / 24) + h < n). all (24 * (n / 24) + h) below)
+      (λ (above : n ≤ 24 * (n / 24) + h). short-past run _ (omega arith))
+      (cases_lt (24 * (n / 24) + h) n))
+same_day-is run n (Some l) end (at n' l' below holds all) =
+    ⊎_elim
+    (λ (same : l / 24 ≡ n / 24).
+      let there : is_short_day run (n / 24) ≡ true = rw same at (day-of run l holds) in
+      there ∙ sym (eq-eqb (l / 24) (n / 24) same))
+    (λ (other : l / 24 ≡ n / 24 → ⊥).
+      day-none run (n / 24) (λ h r. ⊎_elim
+        (λ (b : 24 * (n / 24) + h < n). all (24 * (n / 24) + h) (omega (arith, other)) b)
+        (λ (above : n ≤ 24 * (n / 24) + h). short-past run _ (omega arith))
+        (cases_lt (24 * (n / 24) + h) n))
+      ∙ sym (ne_eqb (l / 24) (n / 24) other))
+    (cases_eq (l / 24) (n / 24))
+
+pub next_hour-is : (run : List HourOutcome) (n : ℕ) (last : Option ℕ) → Last run n last → is_short_before run n ≡ is_next_hour last n
+next_hour-is run zero None (never n' all) = refl
+next_hour-is run zero (Some l) (at n' l' below holds all) = absurd (omega arith)
+next_hour-is run (suc n) None (never n' all) = all n (omega arith)
+next_hour-is run (suc n) (Some l) (at n' l' below holds all) =
+    ⊎_elim
+    (λ (here : l ≡ n). let e : l + 1 ≡ suc n = omega arith in (rw here at holds) ∙ sym (eq-eqb (l + 1) (suc n) e))
+    (λ (there : l ≡ n → ⊥). all n (omega (arith, there)) (omega arith) ∙ sym (ne_eqb (l + 1) (suc n) (λ e. there (omega arith))))
+    (cases_eq l n)
+
+-- ---- figures, before and after one more hour
+before-same : (run : List HourOutcome) (o : HourOutcome) (h : ℕ) → h ≤ length run → is_short_before (run ++ o ∷ []) h ≡ is_short_before run h
+before-same run o zero l = refl
+before-same run o (suc h) l = short-old run o h (omega arith)
+
+hours-more : (run : List HourOutcome) (o : HourOutcome) → short_hours (run ++ o ∷ []) ≡ short_hours run + cond (is_short o) 1 0
+unfolding short_hours
+hours-more run o = sum_by_push (λ (p : HourOutcome). cond (is_short p) 1 0) run o
+
+energy-more : (run : List HourOutcome) (o : HourOutcome) → unserved_energy (run ++ o ∷ []) ≡ unserved_energy run + sum o.unserved
+unfolding unserved_energy
+energy-more run o = sum_by_push (λ (p : HourOutcome). sum p.unserved) run o
+
+zone-more : (run : List HourOutcome) (o : HourOutcome) (z : ℕ) → zone_energy (run ++ o ∷ []) z ≡ zone_energy run z + get_or o.unserved z 0
+unfolding zone_energy
+zone-more run o z = sum_by_push (λ (p : HourOutcome). get_or p.unserved z 0) run o
+
+cut_hours-more : (run : List HourOutcome) (o : HourOutcome) (m : ℕ) → cut_hours (run ++ o ∷ []) m ≡ cut_hours run m + cond (eqb o.cut m) 1 0
+unfolding cut_hours
+cut_hours-more run o m = sum_by_push (λ (p : HourOutcome). cond (eqb p.cut m) 1 0) run o
+
+cut_energy-more : (run : List HourOutcome) (o : HourOutcome) (m : ℕ) → cut_energy (run ++ o ∷ []) m ≡ cut_energy run m + cond (eqb o.cut m) (sum o.unserved) 0
+unfolding cut_energy
+cut_energy-more run o m = sum_by_push (λ (p : HourOutcome). cond (eqb p.cut m) (sum p.unserved) 0) run o
+
+events-more : (run : List HourOutcome) (o : HourOutcome) → short_events (run ++ o ∷ []) ≡ short_events run + cond (is_short o && not (is_short_before run (length run))) 1 0
+unfolding short_events
+events-more run o =
+    let run' = run ++ o ∷ [] in
+    let n = length run in
+    let p = λ (h : ℕ). is_short_at run h && not (is_short_before run h) in
+    let p' = λ (h : ℕ). is_short_at run' h && not (is_short_before run' h) in
+    let long : count_to p' (length run') ≡ count_to p' (suc n) = ap (λ k. count_to p' k) (length-more run o) in
+    let old : count_to p' n ≡ count_to p n = count_same p' p n (λ k l. ap (λ b. b && not (is_short_before run' k)) (short-old run o k l) ∙ ap (λ b. is_short_at run k && not b) (before-same run o k (omega arith))) in
+    let last : p' n ≡ (is_short o && not (is_short_before run n)) = ap (λ b. b && not (is_short_before run' n)) (short-new run o) ∙ ap (λ b. is_short o && not b) (before-same run o n (omega arith)) in
+    long ∙ count_more p' n ∙ ap (λ k. k + cond (p' n) 1 0) old ∙ ap (λ b. count_to p n + cond b 1 0) last
+
+days-count : (run : List HourOutcome) → count_to (is_short_day run) (suc (length run)) ≡ short_days run
+unfolding short_days
+days-count run =
+    let n = length run in
+    let none : is_short_day run n ≡ false = day-none run n (λ h l. short-past run _ (omega arith)) in
+    let e : cond {A = ℕ} (is_short_day run n) 1 0 ≡ 0 = rw none refl in
+    omega (arith, count_more (is_short_day run) n, e)
+
+days-more_short : (run : List HourOutcome) (o : HourOutcome) → is_short o ≡ true → short_days (run ++ o ∷ []) ≡ short_days run + cond (is_short_day run (length run / 24)) 0 1
+unfolding short_days
+days-more_short run o falls =
+    let run' = run ++ o ∷ [] in
+    let n = length run in
+    let p = is_short_day run in
+    let p' = is_short_day run' in
+    let long : count_to p' (length run') ≡ count_to p' (suc n) = ap (λ k. count_to p' k) (length-more run o) in
+    let others : (k : ℕ) → (k ≡ n / 24 → ⊥) → p' k ≡ p k = λ k ne. day-same run run' k (λ h l. short-other run o (24 * k + h) (λ e. ne (omega arith))) in
+    let mine : p' (n / 24) ≡ true = day-of run' n (short-new run o ∙ falls) in
+    long ∙ count_changed p' p (n / 24) (suc n) (omega arith) others mine ∙ ap (λ k. k + cond (p (n / 24)) 0 1) (days-count run)
+
+days-more_quiet : (run : List HourOutcome) (o : HourOutcome) → is_short o ≡ false → short_days (run ++ o ∷ []) ≡ short_days run
+unfolding short_days
+days-more_quiet run o quiet =
+    let run' = run ++ o ∷ [] in
+    let n = length run in
+    let p = is_short_day run in
+    let p' = is_short_day run' in
+    let long : count_to p' (length run') ≡ count_to p' (suc n) = ap (λ k. count_to p' k) (length-more run o) in
+    let every : (h : ℕ) → is_short_at run' h ≡ is_short_at run h = λ h. ⊎_elim
+      (λ (e : h ≡ n). rw e (short-new run o ∙ quiet ∙ sym (short-past run n (omega arith))))
+      (λ (ne : h ≡ n → ⊥). short-other run o h ne)
+      (cases_eq h n) in
+    long ∙ count_same p' p (suc n) (λ k l. day-same run run' k (λ h l. every (24 * k + h))) ∙ days-count run
+
+last-more : (run : List HourOutcome) (o : HourOutcome) (n : ℕ) → n ≤ length run → last_short_below (run ++ o ∷ []) n ≡ last_short_below run n
+unfolding last_short_below
+last-more run o zero l = refl
+last-more run o (suc n) l =
+    let rest = last-more run o n (omega arith) in
+    ap (λ b. cond b (Some n) (last_short_below (run ++ o ∷ []) n)) (short-old run o n (omega arith)) ∙ ap (λ r. cond (is_short_at run n) (Some n) r) rest
+
+last-new : (run : List HourOutcome) (o : HourOutcome) → last_short_below (run ++ o ∷ []) (length (run ++ o ∷ [])) ≡ cond (is_short o) (Some (length run)) (last_short_below run (length run))
+unfolding last_short_below
+last-new run o =
+    let run' = run ++ o ∷ [] in
+    ap (λ k. last_short_below run' k) (length-more run o)
+    ∙ ap (λ b. cond b (Some (length run)) (last_short_below run' (length run))) (short-new run o)
+    ∙ ap (λ r. cond (is_short o) (Some (length run)) r) (last-more run o (length run) (omega arith))
+
+-- a mask without hours has no energy
+cut_energy-none : (run : List HourOutcome) (m : ℕ) → cut_hours run m ≡ 0 → cut_energy run m ≡ 0
+unfolding cut_hours cut_energy
+cut_energy-none [] m h = refl
+cut_energy-none (o ∷ run) m h =
+    let hs = sum_by-cons (λ (p : HourOutcome). cond (eqb p.cut m) 1 0) o run in
+    let es = sum_by-cons (λ (p : HourOutcome). cond (eqb p.cut m) (sum p.unserved) 0) o run in
+    ⊎_elim
+    (λ (is : eqb o.cut m ≡ true). let one : cond {A = ℕ} (eqb o.cut m) 1 0 ≡ 1 = cond-true _ _ _ is in absurd (omega (arith, hs, one)))
+    (λ (isnt : eqb o.cut m ≡ false).
+      let none : cond {A = ℕ} (eqb o.cut m) 1 0 ≡ 0 = cond-false _ _ _ isnt in
+      let nothing : cond (eqb o.cut m) (sum o.unserved) 0 ≡ 0 = cond-false _ _ _ isnt in
+      let rest = cut_energy-none run m (omega (arith, hs, none)) in
+      omega (arith, es, nothing, rest))
+    (cases_Bool (eqb o.cut m))
+
+-- ---- tallies
+abbrev pub make : ℕ → ℕ → Option ℕ → ℕ → ℕ → ℕ → ℕ → List ℕ → List CutRow → Tally
+make room counted last hours days events unserved zones cuts = record {
+  room = room;
+  counted = counted;
+  last = last;
+  figures = record { hours = hours; days = days; events = events; unserved = unserved; zones = zones; cuts = cuts };
+}
+
+-- tallies with the same parts are one
+pub same_tally : (t t' : Tally) → t.room ≡ t'.room → t.counted ≡ t'.counted → t.last ≡ t'.last → t.figures.hours ≡ t'.figures.hours → t.figures.days ≡ t'.figures.days → t.figures.events ≡ t'.figures.events → t.figures.unserved ≡ t'.figures.unserved → t.figures.zones ≡ t'.figures.zones → t.figures.cuts ≡ t'.figures.cuts → t ≡ t'
+same_tally t t' a b c d e f g h i =
+    ap (λ x. make x t.counted t.last t.figures.hours t.figures.days t.figures.events t.figures.unserved t.figures.zones t.figures.cuts) a
+    ∙ ap (λ x. make t'.room x t.last t.figures.hours t.figures.days t.figures.events t.figures.unserved t.figures.zones t.figures.cuts) b
+    ∙ ap (λ x. make t'.room t'.counted x t.figures.hours t.figures.days t.figures.events t.figures.unserved t.figures.zones t.figures.cuts) c
+    ∙ ap (λ x. make t'.room t'.counted t'.last x t.figures.days t.figures.events t.figures.unserved t.figures.zones t.figures.cuts) d
+    ∙ ap (λ x. make t'.room t'.counted t'.last t'.figures.hours x t.figures.events t.figures.unserved t.figures.zones t.figures.cuts) e
+    ∙ ap (λ x. make t'.room t'.counted t'.last t'.figures.hours t'.figures.days x t.figures.unserved t.figures.zones t.figures.cuts) f
+    ∙ ap (λ x. make t'.room t'.counted t'.last t'.figures.hours t'.figures.days t'.figures.events x t.figures.zones t.figures.cuts) g
+    ∙ ap (λ x. make t'.room t'.counted t'.last t'.figures.hours t'.figures.days t'.figures.events t'.figures.unserved x t.figures.cuts) h
+    ∙ ap (λ x. make t'.room t'.counted t'.last t'.figures.hours t'.figures.days t'.figures.events t'.figures.unserved t'.figures.zones x) i
+
+-- no hour yet
+energies-none : (low zones : ℕ) → map (zone_energy []) (range_with_len low zones) ≡ replicate zones 0
+unfolding zone_energy
+energies-none low zero = refl
+energies-none low (suc zones) = ap (λ r. 0 ∷ r) (energies-none (low + 1) zones)
+
+cuts-none : (zones : ℕ) → [] ≡ rows_of (cut_hours []) (cut_energy []) (masks zones)
+unfolding cut_hours cut_energy
+cuts-none zones = rows_are (cut_hours []) (cut_energy []) 1 (2 ^ zones - 1) [] tt (λ m g l. hours_at-none m) (λ m g l. unserved_at-none m)
+
+pub tally-none : (room zones : ℕ) → make room 0 None 0 0 0 0 (replicate zones 0) [] ≡ tally_of room zones []
+unfolding tally_of figures_of last_short_below short_hours short_days short_events unserved_energy
+tally-none room zones = same_tally (make room 0 None 0 0 0 0 (replicate zones 0) []) (tally_of room zones []) refl refl refl refl refl refl refl (sym (energies-none 0 zones)) (cuts-none zones)
+
+quiet : HourOutcome
+quiet = one_zone_outcome 0
+
+-- an hour that doesn't fall short
+pub tally-quiet : (room : ℕ) (run : List HourOutcome) (t : Tally) → t ≡ tally_of room 1 run → record t { counted = t.counted + 1 } ≡ tally_of room 1 (run ++ one_zone_outcome 0 ∷ [])
+unfolding tally_of figures_of
+tally-quiet room run t e =
+    let o = one_zone_outcome 0 in
+    let old = tally_of room 1 run in
+    let none : cut_hours run 0 ≡ cut_hours run 0 = refl in
+    let other : (m : ℕ) → 1 ≤ m → cond {A = ℕ} (eqb 0 m) 1 0 ≡ 0 = λ m g. cond-false _ _ _ (ne_eqb 0 m (λ x. omega arith)) in
+    let none_there : (m : ℕ) → 1 ≤ m → cond {A = ℕ} (eqb 0 m) (sum (0 ∷ [])) 0 ≡ 0 = λ m g. cond-false _ _ _ (ne_eqb 0 m (λ x. omega arith)) in
+    subst (λ (x : Tally). record x { counted = x.counted + 1 } ≡ tally_of room 1 (run ++ o ∷ [])) (sym e)
+    (same_tally (record old { counted = old.counted + 1 }) (tally_of room 1 (run ++ o ∷ [])) refl
+      (omega (arith, length-more run o))
+      (sym (last-new run o))
+      (omega (arith, hours-more run o))
+      (sym (days-more_quiet run o refl))
+      (omega (arith, events-more run o))
+      (omega (arith, energy-more run o))
+      (ap (λ x. x ∷ []) (omega (arith, zone-more run o 0)))
+      (rows_are (cut_hours (run ++ o ∷ [])) (cut_energy (run ++ o ∷ [])) 1 (2 ^ 1 - 1) old.figures.cuts
+        (AreRows-rows_of (cut_hours run) (cut_energy run) 1 (2 ^ 1 - 1))
+        (λ m g l. omega (arith, hours_at-rows_of (cut_hours run) (cut_energy run) 1 (2 ^ 1 - 1) m g l, cut_hours-more run o m, other m g))
+        (λ m g l. omega (arith, unserved_at-rows_of (cut_hours run) (cut_energy run) 1 (2 ^ 1 - 1) m g l (cut_energy-none run m), cut_energy-more run o m, none_there m g))))
+
+not-flips : (b : Bool) → cond {A = ℕ} (not b) 1 0 ≡ cond b 0 1
+not-flips true = refl
+not-flips false = refl
+
+-- an hour that falls short
+pub tally-short : (room : ℕ) (run : List HourOutcome) (t : Tally) (u : ℕ) (rows : List CutRow) → 0 < u → AddsRows t.figures.cuts (record { mask = 1; hours = 1; unserved = u } ∷ []) rows → t ≡ tally_of room 1 run
+    → make t.room (t.counted + 1) (Some t.counted) (t.figures.hours + 1) (t.figures.days + cond (not (is_same_day t.last t.counted)) 1 0) (t.figures.events + cond (not (is_next_hour t.last t.counted)) 1 0) (t.figures.unserved + u) (set t.figures.zones 0 (get_or t.figures.zones 0 0 + u)) rows
+    ≡ tally_of room 1 (run ++ one_zone_outcome u ∷ [])
+unfolding tally_of figures_of
+tally-short room run t u rows some added e =
+    let o = one_zone_outcome u in
+    let old = tally_of room 1 run in
+    let n = length run in
+    let last = last_short_below run n in
+    let shape = λ (x : Tally). make x.room (x.counted + 1) (Some x.counted) (x.figures.hours + 1) (x.figures.days + cond (not (is_same_day x.last x.counted)) 1 0) (x.figures.events + cond (not (is_next_hour x.last x.counted)) 1 0) (x.figures.unserved + u) (set x.figures.zones 0 (get_or x.figures.zones 0 0 + u)) rows in
+    let adds : AddsRows old.figures.cuts (record { mask = 1; hours = 1; unserved = u } ∷ []) rows = subst (λ (x : Tally). AddsRows x.figures.cuts (record { mask = 1; hours = 1; unserved = u } ∷ []) rows) e added in
+    let falls : is_short o ≡ true = lt-ltb 0 (sum (u ∷ [])) (omega arith) in
+    let one : cond {A = ℕ} (is_short o) 1 0 ≡ 1 = cond-true _ _ _ falls in
+    let cut_is : o.cut ≡ 1 = cond-true _ _ _ (lt-ltb 0 u some) in
+    let day : is_short_day run (n / 24) ≡ is_same_day last n = same_day-is run n last (omega arith) (last-is run n) in
+    let next : is_short_before run n ≡ is_next_hour last n = next_hour-is run n last (last-is run n) in
+    let started : cond {A = ℕ} (is_short o && not (is_short_before run n)) 1 0 ≡ cond (not (is_next_hour last n)) 1 0 = ap (λ b. cond (b && not (is_short_before run n)) 1 0) falls ∙ ap (λ b. cond (not b) 1 0) next in
+    let new_day : cond {A = ℕ} (is_short_day run (n / 24)) 0 1 ≡ cond (not (is_same_day last n)) 1 0 = ap (λ b. cond b 0 1) day ∙ sym (not-flips (is_same_day last n)) in
+    let share_is : (m : ℕ) → cond {A = ℕ} (eqb o.cut m) 1 0 ≡ cond (eqb 1 m) 1 0 = λ m. ap (λ k. cond (eqb k m) 1 0) cut_is in
+    let energy_is : (m : ℕ) → cond (eqb o.cut m) (sum (u ∷ [])) 0 ≡ cond (eqb 1 m) u 0 = λ m. ap (λ k. cond (eqb k m) (sum (u ∷ [])) 0) cut_is ∙ ap (λ k. cond (eqb 1 m) k 0) (let s : sum (u ∷ []) ≡ u = omega arith in s) in
+    ap shape e ∙
+    same_tally (shape old) (tally_of room 1 (run ++ o ∷ [])) refl
+      (omega (arith, length-more run o))
+      (sym (last-new run o ∙ cond-true _ _ _ falls))
+      (omega (arith, hours-more run o, one))
+      (omega (arith, days-more_short run o falls, new_day))
+      (omega (arith, events-more run o, started))
+      (omega (arith, energy-more run o))
+      (ap (λ x. x ∷ []) (omega (arith, zone-more run o 0)))
+      (rows_are (cut_hours (run ++ o ∷ [])) (cut_energy (run ++ o ∷ [])) 1 (2 ^ 1 - 1) rows
+        (adds.ascending 1 2 (AreRows-rows_of (cut_hours run) (cut_energy run) 1 (2 ^ 1 - 1)) (omega arith, omega arith, omega arith, tt))
+        (λ m g l. omega (arith, adds.hours m, hours_at-one (record { mask = 1; hours = 1; unserved = u }) m, hours_at-rows_of (cut_hours run) (cut_energy run) 1 (2 ^ 1 - 1) m g l, cut_hours-more run o m, share_is m))
+        (λ m g l. omega (arith, adds.unserved m, unserved_at-one (record { mask = 1; hours = 1; unserved = u }) m, unserved_at-rows_of (cut_hours run) (cut_energy run) 1 (2 ^ 1 - 1) m g l (cut_energy-none run m), cut_energy-more run o m, energy_is m)))
+
+-- ---- ranges
+zeros-at : (n z : ℕ) → get_or (replicate {A = ℕ} n 0) z 0 ≡ 0
+zeros-at zero z = refl
+zeros-at (suc n) zero = refl
+zeros-at (suc n) (suc z) = zeros-at n z
+
+pub IsInRange-none : (room zones : ℕ) → room ≤ 8784 → 0 < zones → zones ≤ 32 → IsInRange (make room 0 None 0 0 0 0 (replicate zones 0) [])
+IsInRange-none room zones few some_zone few_zones = record {
+  room = few;
+  counted = omega arith;
+  hours = omega arith;
+  days = omega arith;
+  events = omega arith;
+  unserved = omega arith;
+  some_zone = rw (length-replicate {A = ℕ} zones 0) some_zone;
+  few_zones = rw (length-replicate {A = ℕ} zones 0) few_zones;
+  zones = λ z. omega (arith, zeros-at zones z);
+  few_rows = omega arith;
+  rows = tt;
+  row_hours = λ m. omega (arith, hours_at-none m);
+  row_unserved = λ m. omega (arith, unserved_at-none m);
+}
+
+share-le : (b : Bool) (n : ℕ) → cond b n 0 ≤ n
+share-le true n = omega arith
+share-le false n = omega arith
+
+set-at : (xs : List ℕ) (y z bound : ℕ) → length xs ≡ 1 → y ≤ bound → get_or (set xs 0 y) z 0 ≤ bound
+set-at [] y z bound e h = absurd (omega arith)
+set-at (x ∷ []) y zero bound e h = h
+set-at (x ∷ []) y (suc z) bound e h = omega arith
+set-at (x ∷ (x' ∷ xs)) y z bound e h = absurd (omega arith)
+
+pub IsInRange-quiet : (t : Tally) → IsInRange t → t.counted < t.room → IsInRange (record t { counted = t.counted + 1 })
+IsInRange-quiet t is l = record {
+  room = is.room;
+  counted = omega arith;
+  hours = omega (arith, is.hours);
+  days = omega (arith, is.days);
+  events = omega (arith, is.events);
+  unserved = omega (arith, is.unserved);
+  some_zone = is.some_zone;
+  few_zones = is.few_zones;
+  zones = λ z. omega (arith, is.zones z);
+  few_rows = omega (arith, is.few_rows);
+  rows = is.rows;
+  row_hours = λ m. omega (arith, is.row_hours m);
+  row_unserved = λ m. omega (arith, is.row_unserved m);
+}
+
+pub IsInRange-short : (t : Tally) (last : Option ℕ) (u days events : ℕ) (rows : List CutRow) → IsInRange t → t.counted < t.room → length t.figures.zones ≡ 1 → u ≤ 200000 → days ≤ 1 → events ≤ 1 → AddsRows t.figures.cuts (record { mask = 1; hours = 1; unserved = u } ∷ []) rows → length rows ≤ length t.figures.cuts + 1
+    → IsInRange (make t.room (t.counted + 1) last (t.figures.hours + 1) (t.figures.days + days) (t.figures.events + events) (t.figures.unserved + u) (set t.figures.zones 0 (get_or t.figures.zones 0 0 + u)) rows)
+IsInRange-short t last u days events rows is l one small few_days few_events added few =
+    let len : length (set t.figures.zones 0 (get_or t.figures.zones 0 0 + u)) ≡ length t.figures.zones = length-set t.figures.zones 0 (get_or t.figures.zones 0 0 + u) in
+    let row : CutRow = record { mask = 1; hours = 1; unserved = u } in
+    let old_rows : AreRows 1 2 t.figures.cuts = rw one at is.rows in
+    let new_rows : AreRows 1 2 rows = added.ascending 1 2 old_rows (omega arith, omega arith, omega arith, tt) in
+    record {
+      room = is.room;
+      counted = omega arith;
+      hours = omega (arith, is.hours);
+      days = omega (arith, is.days);
+      events = omega (arith, is.events);
+      unserved = omega (arith, is.unserved);
+      some_zone = omega (arith, len, is.some_zone);
+      few_zones = omega (arith, len, is.few_zones);
+      zones = λ z. set-at t.figures.zones (get_or t.figures.zones 0 0 + u) z ((t.counted + 1) * 200000) one (omega (arith, is.zones 0));
+      few_rows = omega (arith, is.few_rows);
+      rows = let e : length (set t.figures.zones 0 (get_or t.figures.zones 0 0 + u)) ≡ 1 = len ∙ one in rw e new_rows;
+      row_hours = λ m. omega (arith, added.hours m, hours_at-one row m, share-le (eqb 1 m) 1, is.row_hours m);
+      row_unserved = λ m. omega (arith, added.unserved m, unserved_at-one row m, share-le (eqb 1 m) u, is.row_unserved m);
+    }

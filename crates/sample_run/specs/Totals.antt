@@ -1,0 +1,68 @@
+-- Sums over samples: each figure's plain sum and the sum of its squares, and cut rows added by mask.
+use Rattle.std.specs.Prelude.{◌≡◌, ℕ, ◌*◌, ◌^◌, ◌<◌, ◌≤◌, List, length, map, sum_by, slice_index, slice_index_or}
+use Rattle.std.specs.List.{range_with_len}
+use Rattle.sample_run.specs.declared.cut_rows.CutRow.{CutRow}
+use Rattle.sample_run.specs.declared.estimates.Sums.{Sums}
+use Rattle.sample_run.specs.declared.totals.Part.{Part}
+use Rattle.sample_run.specs.declared.totals.Part.TheVariants.{Hours, Days, Events, Unserved}
+use Rattle.sample_run.specs.CutRows.{masks, rows_of, hours_at, unserved_at, AreRows}
+use Rattle.sample_run.specs.Estimates.{AreSums}
+use Rattle.sample_run.specs.Results.{HourOutcome, short_hours, short_days, short_events, unserved_energy, zone_energy, cut_hours, cut_energy}
+
+-- what a contract sees of totals
+pub record Sheet : Type 0 where
+  pub samples : ℕ
+  pub hours : Sums
+  pub days : Sums
+  pub events : Sums
+  pub unserved : Sums
+  pub zones : List Sums
+  pub cuts : List CutRow
+
+-- the sum of a figure over runs, and the sum of its squares
+unfoldable pub sums_of : (List HourOutcome → ℕ) → List (List HourOutcome) → Sums
+sums_of figure runs = record {
+  total = sum_by figure runs;
+  squares = sum_by (λ run. figure run * figure run) runs;
+}
+
+-- the totals of runs in so many zones
+unfoldable pub totals_of : ℕ → List (List HourOutcome) → Sheet
+totals_of zones runs = record {
+  samples = length runs;
+  hours = sums_of short_hours runs;
+  days = sums_of short_days runs;
+  events = sums_of short_events runs;
+  unserved = sums_of unserved_energy runs;
+  zones = map (λ zone. sums_of (λ run. zone_energy run zone) runs) (range_with_len 0 zones);
+  cuts = rows_of (λ m. sum_by (λ run. cut_hours run m) runs) (λ m. sum_by (λ run. cut_energy run m) runs) (masks zones);
+}
+
+-- the sums of a part
+abbrev pub part_of : Sheet → Part → Sums
+part_of sheet Hours = sheet.hours
+part_of sheet Days = sheet.days
+part_of sheet Events = sheet.events
+part_of sheet Unserved = sheet.unserved
+
+-- what stands past the last zone
+abbrev pub no_sums : Sums
+no_sums = record { total = 0; squares = 0 }
+
+-- the sums of a zone
+abbrev pub zone_of : Sheet → ℕ → Sums
+zone_of sheet zone = slice_index_or sheet.zones zone no_sums
+
+-- the ranges of the parts of totals
+pub record IsSheet (sheet : Sheet) : Type 0 where
+  pub samples : sheet.samples ≤ 1000000
+  pub hours : AreSums sheet.hours sheet.samples
+  pub days : AreSums sheet.days sheet.samples
+  pub events : AreSums sheet.events sheet.samples
+  pub unserved : AreSums sheet.unserved sheet.samples
+  pub some_zone : 0 < length sheet.zones
+  pub few_zones : length sheet.zones ≤ 32
+  pub zones : (z : ℕ) → AreSums (slice_index_or sheet.zones z no_sums) sheet.samples
+  pub rows : AreRows 1 (2 ^ length sheet.zones) sheet.cuts
+  pub row_hours : (m : ℕ) → hours_at sheet.cuts m ≤ sheet.samples * 8784
+  pub row_unserved : (m : ℕ) → unserved_at sheet.cuts m ≤ sheet.samples * 1756800000

@@ -1,0 +1,60 @@
+ghost use Rattle.std.specs.Prelude.{◌≡◌, ℕ, ◌+◌, ◌^◌, ◌<◌, ◌≤◌, [], ◌∷◌, length, vec_len, vec_capacity, slice_index_or};
+ghost use Rattle.sample_run.specs.CutRows.{hours_at, unserved_at, AddsRows, no_row};
+
+/// The hours of one cut: the zones of the cut as a mask with bit `z` for zone `z`, how many hours it
+/// was the cut of, and what these hours left unserved in MWh.
+#[derive(Clone, Copy, Debug, PartialEq, Eq)]
+pub struct CutRow {
+    /// The zones of the cut.
+    pub mask: u32,
+    /// The hours.
+    pub hours: u64,
+    /// The unserved energy of these hours in MWh.
+    pub unserved: u64,
+}
+
+/// The place of the first row whose mask isn't below this one.
+fn place_of(rows: &[CutRow], mask: u32) -> usize
+    ensures within { result ≤ length rows.now }
+    ensures below { (k : ℕ) → k < result → (slice_index_or rows.now k no_row).mask < mask }
+    ensures above { result < length rows.now → mask ≤ (slice_index_or rows.now result no_row).mask }
+{
+    for (at, row) in rows.iter().enumerate() {
+        if row.mask >= mask {
+            return at;
+        }
+    }
+    rows.len()
+}
+
+/// Adds the hours and the energy of a row to the row of its mask, which is put in its place where
+/// there is none.
+pub(crate) fn add_row(rows: &mut Vec<CutRow>, more: CutRow)
+    requires hours { hours_at rows.old.items more.mask + more.hours < 2 ^ 64 }
+    requires unserved { unserved_at rows.old.items more.mask + more.unserved < 2 ^ 64 }
+    requires room { vec_len rows.old < vec_capacity rows.old }
+    ensures added { AddsRows rows.old.items (more ∷ []) rows.new.items }
+    ensures one_more { vec_len rows.new ≤ vec_len rows.old + 1 }
+    ensures capacity { vec_capacity rows.old ≤ vec_capacity rows.new }
+{
+    let at = place_of(rows, more.mask);
+    if at < rows.len() && rows[at].mask == more.mask {
+        let row = &mut rows[at];
+        row.hours += more.hours;
+        row.unserved += more.unserved;
+    } else {
+        rows.insert(at, more).unwrap();
+    }
+}
+
+/// Adds rows one by one.
+pub(crate) fn add_rows(rows: &mut Vec<CutRow>, more: &[CutRow])
+    requires hours { (m : ℕ) → hours_at rows.old.items m + hours_at more.now m < 2 ^ 64 }
+    requires unserved { (m : ℕ) → unserved_at rows.old.items m + unserved_at more.now m < 2 ^ 64 }
+    requires room { vec_len rows.old + length more.now ≤ vec_capacity rows.old }
+    ensures { AddsRows rows.old.items more.now rows.new.items }
+{
+    for row in more {
+        add_row(rows, *row);
+    }
+}

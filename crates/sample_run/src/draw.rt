@@ -1,0 +1,71 @@
+ghost use Rattle.std.specs.Prelude.{◌≡◌, ◌+◌, ◌/◌, ◌%◌, ◌^◌, ◌<◌};
+ghost use Rattle.sample_run.specs.Draw.{draw};
+
+use rand_chacha::ChaCha8Rng;
+use rand_core::SeedableRng;
+use rand_core::utils::NextWord;
+use std::marker::Model;
+
+/// The draws of one sample after another: for a sample those of hour 0 by component, then those of
+/// hour 1, and so on. A draw depends on the seed, the sample, the hour and the component alone.
+///
+/// The words are those of ChaCha with 8 rounds. The key is the seed's eight little-endian bytes and
+/// 24 zero bytes, the stream is the sample, and the place is `hour * components + component`. A
+/// stream repeats after 2^68 words. (This project's rule.)
+#[derive(Drop)]
+pub struct SampleStream {
+    seed: u64,
+    components: u32,
+    words: ChaCha8Rng,
+}
+
+impl Model for SampleStream {
+    ghost use Rattle.std.specs.Prelude.{◌≡◌};
+    ghost use Rattle.rand_chacha.specs.ChaCha.{key_of};
+    ghost use Rattle.sample_run.specs.Draw.{Draws, key_bytes};
+
+    ghost Value = { Draws };
+
+    ghost view = { λ s. record {
+      seed = s.seed;
+      components = s.components;
+      sample = s.words.stream;
+      place = s.words.word_pos;
+    } };
+
+    ghost invariant = { λ s. s.words.key ≡ key_of (key_bytes s.seed) };
+}
+
+impl SampleStream {
+    /// The draws under a seed, for so many components, at the start of sample 0.
+    pub fn new(seed: u64, components: u32) -> SampleStream
+        ensures { result ≡ record { seed = seed; components = components; sample = 0; place = 0 } }
+    {
+        let mut key = [0; 32];
+        key[0..8].copy_from_slice(&seed.to_le_bytes());
+        SampleStream {
+            seed,
+            components,
+            words: ChaCha8Rng::from_seed(key),
+        }
+    }
+
+    /// Goes to the first draw of a sample.
+    pub fn start(&mut self, sample: u32)
+        ensures { self.new ≡ record self.old { sample = sample; place = 0 } }
+    {
+        self.words.set_word_pos(0);
+        self.words.set_stream(u64::from(sample));
+    }
+
+    /// The next draw.
+    #[inline]
+    pub fn next_draw(&mut self) -> u32
+        requires { 0 < self.old.components }
+        ensures word { let hour = self.old.place / self.old.components in let component = self.old.place % self.old.components in
+            result ≡ draw self.old.components self.old.seed self.old.sample hour component }
+        ensures next { self.new ≡ record self.old { place = (self.old.place + 1) % 2 ^ 68 } }
+    {
+        self.words.next_word()
+    }
+}

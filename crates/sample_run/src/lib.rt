@@ -1,0 +1,15 @@
+//! One sample of a study and what samples come to: draws that are numbered by sample, hour and
+//! component, the up states and the run that follow from them, the figures of a run, and their totals.
+#![tactic(auto)]
+
+mod cut_rows;
+mod draw;
+mod estimates;
+mod results;
+mod totals;
+
+pub use cut_rows::CutRow;
+pub use draw::SampleStream;
+pub use estimates::{Sums, error, mean};
+pub use results::SampleResult;
+pub use totals::{Part, Totals};

@@ -1,0 +1,199 @@
+ghost use Rattle.std.specs.Prelude.{◌≡◌, ℕ, ◌+◌, ◌*◌, ◌^◌, ◌<◌, ◌≤◌, List, [], ◌∷◌, ◌++◌, not, length, slice_index, IfOk};
+ghost use Rattle.sample_run.specs.CutRows.{hours_at, unserved_at, AreRows};
+ghost use Rattle.sample_run.specs.Results.{HourOutcome, one_zone_outcome, is_same_day, is_next_hour, tally_of};
+
+use ra_base::OutOfMemory;
+use std::alloc::Global;
+use std::marker::Model;
+
+use crate::cut_rows::{CutRow, add_row};
+
+/// What a sample came to: hours, days and events of shortfall, unserved energy in MWh, over all
+/// zones and by zone, and a row for each cut. Its hours come in one by one.
+#[derive(Drop)]
+pub struct SampleResult {
+    room: u32,
+    counted: u32,
+    // The last hour that fell short.
+    last: Option<u32>,
+    hours: u64,
+    days: u64,
+    events: u64,
+    unserved: u64,
+    zones: Vec<u64>,
+    cuts: Vec<CutRow>,
+}
+
+impl Model for SampleResult {
+    ghost use Rattle.std.specs.Prelude.{◌≤◌, vec_capacity};
+    ghost use Rattle.sample_run.specs.Results.{Tally, IsInRange};
+
+    ghost Value = { Tally };
+
+    ghost view = { λ r. record {
+      room = r.room;
+      counted = r.counted;
+      last = r.last;
+      figures = record {
+        hours = r.hours;
+        days = r.days;
+        events = r.events;
+        unserved = r.unserved;
+        zones = r.zones.items;
+        cuts = r.cuts.items;
+      };
+    } };
+
+    ghost invariant = { λ r. (r.room ≤ vec_capacity r.cuts) × IsInRange (record {
+      room = r.room;
+      counted = r.counted;
+      last = r.last;
+      figures = record {
+        hours = r.hours;
+        days = r.days;
+        events = r.events;
+        unserved = r.unserved;
+        zones = r.zones.items;
+        cuts = r.cuts.items;
+      };
+    }) };
+}
+
+/// Whether an hour is the first of its day that falls short.
+fn starts_day(last: Option<u32>, hour: u32) -> bool
+    ensures { result ≡ not (is_same_day last hour) }
+{
+    match last {
+        Some(last) => last / 24 != hour / 24,
+        None => true,
+    }
+}
+
+/// Whether no hour that falls short stands right before an hour.
+fn starts_event(last: Option<u32>, hour: u32) -> bool
+    ensures { result ≡ not (is_next_hour last hour) }
+{
+    match last {
+        Some(last) => u64::from(last) + 1 != u64::from(hour),
+        None => true,
+    }
+}
+
+impl SampleResult {
+    /// The result of no hour, with room for so many hours of so many zones.
+    pub fn new(alloc: Global, zones: u8, hours: u32) -> Result<SampleResult, OutOfMemory>
+        requires some_zone { 0 < zones }
+        requires few_zones { zones ≤ 32 }
+        requires some_hour { 0 < hours }
+        requires few_hours { hours ≤ 8784 }
+        ensures { IfOk result (λ r. r ≡ tally_of hours zones []) }
+    {
+        Ok(SampleResult {
+            room: hours,
+            counted: 0,
+            last: None,
+            hours: 0,
+            days: 0,
+            events: 0,
+            unserved: 0,
+            zones: vec![in alloc; 0; zones as usize]?,
+            cuts: Vec::with_capacity(alloc, hours as usize)?,
+        })
+    }
+
+    /// Forgets the hours that came, and keeps the room.
+    pub fn clear(&mut self)
+        ensures { self.new ≡ tally_of self.old.room (length self.old.figures.zones) [] }
+    {
+        self.counted = 0;
+        self.last = None;
+        self.hours = 0;
+        self.days = 0;
+        self.events = 0;
+        self.unserved = 0;
+        self.zones.fill(0);
+        self.cuts.clear();
+    }
+
+    /// Adds the next hour of a system with one zone, with its unserved load in MW. It takes no memory.
+    pub fn add_hour(&mut self, hour: u32, unserved: u32)
+        requires one_zone { length self.old.figures.zones ≡ 1 }
+        requires next { hour ≡ self.old.counted }
+        requires room { hour < self.old.room }
+        requires small { unserved ≤ 200000 }
+        // Where the result stood for the hours of a run, it now stands for those and this one.
+        ensures { (run : List HourOutcome) → self.old ≡ tally_of self.old.room 1 run
+            → self.new ≡ tally_of self.old.room 1 (run ++ one_zone_outcome unserved ∷ []) }
+    {
+        self.counted += 1;
+        if unserved == 0 {
+            return;
+        }
+        let energy = u64::from(unserved);
+        self.hours += 1;
+        self.days += u64::from(starts_day(self.last, hour));
+        self.events += u64::from(starts_event(self.last, hour));
+        self.unserved += energy;
+        self.zones[0] += energy;
+        add_row(
+            &mut self.cuts,
+            CutRow {
+                mask: 1,
+                hours: 1,
+                unserved: energy,
+            },
+        );
+        self.last = Some(hour);
+    }
+
+    /// The hours that fell short.
+    pub fn hours(&self) -> u64
+        ensures value { result ≡ self.now.figures.hours }
+        ensures bound { result ≤ 8784 }
+    {
+        self.hours
+    }
+
+    /// The days, of 24 hours from the first hour on, that hold an hour that fell short.
+    pub fn days(&self) -> u64
+        ensures value { result ≡ self.now.figures.days }
+        ensures bound { result ≤ 8784 }
+    {
+        self.days
+    }
+
+    /// The events, which are runs of hours that fell short.
+    pub fn events(&self) -> u64
+        ensures value { result ≡ self.now.figures.events }
+        ensures bound { result ≤ 8784 }
+    {
+        self.events
+    }
+
+    /// The unserved energy over all zones in MWh.
+    pub fn unserved(&self) -> u64
+        ensures value { result ≡ self.now.figures.unserved }
+        ensures bound { result ≤ 1756800000 }
+    {
+        self.unserved
+    }
+
+    /// The unserved energy of a zone in MWh.
+    pub fn zone(&self, zone: u8) -> u64
+        requires { zone < length self.now.figures.zones }
+        ensures value { result ≡ slice_index self.now.figures.zones zone }
+        ensures bound { result ≤ 1756800000 }
+    {
+        self.zones[zone as usize]
+    }
+
+    /// The rows by cut, ascending by mask.
+    pub fn cuts(&self) -> &[CutRow]
+        ensures value { result.now ≡ self.now.figures.cuts }
+        ensures ascending { AreRows 1 (2 ^ length self.now.figures.zones) result.now }
+        ensures hours { (m : ℕ) → hours_at result.now m ≤ 8784 }
+        ensures unserved { (m : ℕ) → unserved_at result.now m ≤ 1756800000 }
+    {
+        &self.cuts
+    }
+}
