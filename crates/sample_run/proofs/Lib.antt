@@ -2,3 +2,4 @@ pub mod CutRowsLemmas
 pub mod Counting
 pub mod ResultsLemmas
 pub mod EstimatesLemmas
+pub mod TotalsLemmas

@@ -188,7 +188,7 @@ last-new run o =
     ∙ ap (λ r. cond (is_short o) (Some (length run)) r) (last-more run o (length run) (omega arith))
 
 -- a mask without hours has no energy
-cut_energy-none : (run : List HourOutcome) (m : ℕ) → cut_hours run m ≡ 0 → cut_energy run m ≡ 0
+pub cut_energy-none : (run : List HourOutcome) (m : ℕ) → cut_hours run m ≡ 0 → cut_energy run m ≡ 0
 unfolding cut_hours cut_energy
 cut_energy-none [] m h = refl
 cut_energy-none (o ∷ run) m h =

@@ -1,5 +1,5 @@
 -- Mean and standard error of a sum over samples, in thousandths.
-use Rattle.std.specs.Prelude.{ℕ, zero, suc, ◌+◌, ◌-◌, ◌*◌, ◌/◌, ◌≤◌, ◌==◌, Bool, nat_le, Option, None, Some, if◌then◌else◌}
+use Rattle.std.specs.Prelude.{ℕ, zero, suc, ◌+◌, ◌-◌, ◌*◌, ◌/◌, ◌^◌, ◌≤◌, ◌==◌, Bool, nat_le, Option, None, Some, if◌then◌else◌}
 use Rattle.sample_run.specs.declared.estimates.Sums.{Sums}
 
 -- the sums can be those of `samples` results: a value is at most 8,784 hours of 200,000 MW, and the
@@ -8,6 +8,19 @@ pub record AreSums (sums : Sums) (samples : ℕ) : Type 0 where
   pub total : sums.total ≤ samples * 1756800000
   pub squares : sums.squares ≤ samples * (1756800000 * 1756800000)
   pub spread : sums.total * sums.total ≤ samples * sums.squares
+
+-- the sums of nothing
+abbrev pub no_sums : Sums
+no_sums = record { total = 0; squares = 0 }
+
+-- the sums with one more value
+abbrev pub with_value : Sums → ℕ → Sums
+with_value sums value = record { total = sums.total + value; squares = sums.squares + value * value }
+
+-- there is room for one more value in 128 bits
+pub record FitsMore (sums : Sums) : Type 0 where
+  pub total : sums.total ≤ 2 ^ 127
+  pub squares : sums.squares ≤ 2 ^ 127
 
 -- the mean in thousandths, rounded down
 abbrev pub mean_of : Sums → ℕ → ℕ

@@ -6,7 +6,7 @@ use Rattle.sample_run.specs.declared.estimates.Sums.{Sums}
 use Rattle.sample_run.specs.declared.totals.Part.{Part}
 use Rattle.sample_run.specs.declared.totals.Part.TheVariants.{Hours, Days, Events, Unserved}
 use Rattle.sample_run.specs.CutRows.{masks, rows_of, hours_at, unserved_at, AreRows}
-use Rattle.sample_run.specs.Estimates.{AreSums}
+use Rattle.sample_run.specs.Estimates.{AreSums, no_sums}
 use Rattle.sample_run.specs.Results.{HourOutcome, short_hours, short_days, short_events, unserved_energy, zone_energy, cut_hours, cut_energy}
 
 -- what a contract sees of totals
@@ -44,10 +44,6 @@ part_of sheet Hours = sheet.hours
 part_of sheet Days = sheet.days
 part_of sheet Events = sheet.events
 part_of sheet Unserved = sheet.unserved
-
--- what stands past the last zone
-abbrev pub no_sums : Sums
-no_sums = record { total = 0; squares = 0 }
 
 -- the sums of a zone
 abbrev pub zone_of : Sheet → ℕ → Sums

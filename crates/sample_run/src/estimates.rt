@@ -1,5 +1,5 @@
 ghost use Rattle.std.specs.Prelude.{◌≡◌, ◌<◌, ◌≤◌, ◌+◌, ◌*◌, IfSome, IsNone, ◌↔◌};
-ghost use Rattle.sample_run.specs.Estimates.{AreSums, mean_of, error_of, IsGreatestWithin};
+ghost use Rattle.sample_run.specs.Estimates.{AreSums, FitsMore, with_value, mean_of, error_of, IsGreatestWithin};
 
 /// The plain sum of a figure over samples, and the sum of its squares.
 #[derive(Clone, Copy, Debug, PartialEq, Eq)]
@@ -8,6 +8,21 @@ pub struct Sums {
     pub total: u128,
     /// The sum of the squares.
     pub squares: u128,
+}
+
+impl Sums {
+    /// These sums and one more value.
+    pub(crate) fn with(self, value: u64) -> Sums
+        requires small { value ≤ 1756800000 }
+        requires fits { FitsMore self }
+        ensures { result ≡ with_value self value }
+    {
+        let value = u128::from(value);
+        Sums {
+            total: self.total + value,
+            squares: self.squares + value * value,
+        }
+    }
 }
 
 /// The mean over so many samples in thousandths, rounded down.

@@ -1,13 +1,14 @@
-ghost use Rattle.std.specs.Prelude.{◌≡◌, ℕ, ◌+◌, ◌*◌, ◌^◌, ◌<◌, ◌≤◌, List, [], ◌∷◌, ◌++◌, length, IfOk, OnOk, OnErr};
+ghost use Rattle.std.specs.Prelude.{◌≡◌, ℕ, ◌+◌, ◌*◌, ◌^◌, ◌<◌, ◌≤◌, List, [], ◌∷◌, ◌++◌, length, slice_index, slice_index_or, IfOk, OnOk, OnErr};
 ghost use Rattle.sample_run.specs.CutRows.{AreRows};
-ghost use Rattle.sample_run.specs.Estimates.{AreSums};
-ghost use Rattle.sample_run.specs.Results.{Figures};
+ghost use Rattle.sample_run.specs.Estimates.{AreSums, FitsMore, with_value, no_sums};
+ghost use Rattle.sample_run.specs.Results.{HourOutcome, figures_of};
+ghost use Rattle.sample_run.specs.Totals.{part_of, zone_of, totals_of};
 
 use ra_base::OutOfMemory;
 use std::alloc::Global;
 use std::marker::Model;
 
-use crate::cut_rows::{CutRow, add_row};
+use crate::cut_rows::{CutRow, add_rows};
 use crate::estimates::Sums;
 use crate::results::SampleResult;
 
@@ -60,4 +61,103 @@ impl Model for Totals {
       zones = t.zones.items;
       cuts = t.cuts.items;
     }) };
+}
+
+/// The sums of no sample.
+const NOTHING: Sums = Sums {
+    total: 0,
+    squares: 0,
+};
+
+/// Adds what a result has in each zone to the zone's sums.
+fn add_zones(zones: &mut [Sums], sample: &SampleResult)
+    requires few { length zones.old ≤ 32 }
+    requires agree { length zones.old ≡ length sample.now.figures.zones }
+    requires fits { (z : ℕ) → FitsMore (slice_index_or zones.old z no_sums) }
+    ensures gained { (z : ℕ) → z < length zones.old
+        → slice_index_or zones.new z no_sums ≡ with_value (slice_index_or zones.old z no_sums) (slice_index sample.now.figures.zones z) }
+    ensures small { (z : ℕ) → z < length zones.old → slice_index sample.now.figures.zones z ≤ 1756800000 }
+{
+    for (zone, sums) in zones.iter_mut().enumerate() {
+        *sums = sums.with(sample.zone(zone as u8));
+    }
+}
+
+impl Totals {
+    /// The totals of no sample, for so many zones.
+    pub fn new(alloc: Global, zones: u8) -> Result<Totals, OutOfMemory>
+        requires some { 0 < zones }
+        requires few { zones ≤ 32 }
+        ensures { IfOk result (λ t. t ≡ totals_of zones []) }
+    {
+        Ok(Totals {
+            samples: 0,
+            hours: NOTHING,
+            days: NOTHING,
+            events: NOTHING,
+            unserved: NOTHING,
+            zones: vec![in alloc; NOTHING; zones as usize]?,
+            cuts: Vec::new(alloc),
+        })
+    }
+
+    /// Adds the result of one more sample.
+    pub fn add(&mut self, sample: &SampleResult) -> Result<(), OutOfMemory>
+        requires zones { length self.old.zones ≡ length sample.now.figures.zones }
+        requires few { self.old.samples < 1000000 }
+        // Where the totals were those of runs and the result is that of a run, they are now those of
+        // the runs and this one.
+        ensures ok { OnOk result ((runs : List (List HourOutcome)) (run : List HourOutcome) → let zones = length self.old.zones in
+            self.old ≡ totals_of zones runs → sample.now.figures ≡ figures_of zones run → self.new ≡ totals_of zones (runs ++ run ∷ [])) }
+        ensures err { OnErr result (self.new ≡ self.old) }
+    {
+        let cuts = sample.cuts();
+        self.cuts.reserve(cuts.len())?;
+        self.samples += 1;
+        self.hours = self.hours.with(sample.hours());
+        self.days = self.days.with(sample.days());
+        self.events = self.events.with(sample.events());
+        self.unserved = self.unserved.with(sample.unserved());
+        add_zones(&mut self.zones, sample);
+        add_rows(&mut self.cuts, cuts);
+        Ok(())
+    }
+
+    /// How many samples were added: at most 1,000,000.
+    pub fn samples(&self) -> u32
+        ensures value { result ≡ self.now.samples }
+        ensures bound { result ≤ 1000000 }
+    {
+        self.samples
+    }
+
+    /// The sums of a part.
+    pub fn part(&self, part: Part) -> Sums
+        ensures value { result ≡ part_of self.now part }
+        ensures sums { AreSums result self.now.samples }
+    {
+        match part {
+            Part::Hours => self.hours,
+            Part::Days => self.days,
+            Part::Events => self.events,
+            Part::Unserved => self.unserved,
+        }
+    }
+
+    /// The sums of a zone's unserved energy.
+    pub fn zone(&self, zone: u8) -> Sums
+        requires { zone < length self.now.zones }
+        ensures value { result ≡ zone_of self.now zone }
+        ensures sums { AreSums result self.now.samples }
+    {
+        self.zones[zone as usize]
+    }
+
+    /// The rows by cut over all samples, ascending by mask.
+    pub fn cuts(&self) -> &[CutRow]
+        ensures value { result.now ≡ self.now.cuts }
+        ensures ascending { AreRows 1 (2 ^ length self.now.zones) result.now }
+    {
+        &self.cuts
+    }
 }
