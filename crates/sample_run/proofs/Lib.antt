@@ -3,3 +3,4 @@ pub mod Counting
 pub mod ResultsLemmas
 pub mod EstimatesLemmas
 pub mod TotalsLemmas
+pub mod HoursLemmas

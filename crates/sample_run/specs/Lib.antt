@@ -1,5 +1,10 @@
 pub mod CutRows
 pub mod Draw
 pub mod Estimates
+pub mod Keeps
+pub mod Outages
+pub mod Ready
 pub mod Results
+pub mod Run
 pub mod Totals
+pub mod UnitStates

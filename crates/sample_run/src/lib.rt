@@ -5,11 +5,15 @@
 mod cut_rows;
 mod draw;
 mod estimates;
+mod hours;
 mod results;
+mod runner;
 mod totals;
+mod unit_states;
 
 pub use cut_rows::CutRow;
 pub use draw::SampleStream;
 pub use estimates::{Sums, error, mean};
 pub use results::SampleResult;
+pub use runner::Runner;
 pub use totals::{Part, Totals};
