@@ -1,7 +1,9 @@
 -- Counts and tests over the numbers from 0 on.
-use Rattle.std.proofs.Common.{◌≡◌, ℕ, zero, suc, ◌+◌, ◌<◌, ◌≤◌, Bool, true, false, cond, ◌||◌, List, [], ◌∷◌, ◌++◌, refl, sym, ap, ◌∙◌, arith, ⊎_elim}
+use Rattle.std.proofs.Common.{◌≡◌, ℕ, zero, suc, ◌+◌, ◌<◌, ◌≤◌, Bool, true, false, cond, ◌||◌, List, [], ◌∷◌, ◌++◌, length, get_or, refl, sym, ap, ◌∙◌, arith, ⊎_elim}
 use Rattle.std.specs.List.{sum_by, count_by, range_with_len, list_any}
 use Rattle.std.proofs.lemmas.List.Sums.{sum_by_push}
+use Rattle.std.proofs.lemmas.List.FromFn.{fill_by_all}
+use Rattle.std.proofs.lemmas.List.Folds.{fold-map}
 use Rattle.std.proofs.lemmas.Bool.{cases_eq, cases_lt}
 
 range_more : (a n : ℕ) → range_with_len a (suc n) ≡ range_with_len a n ++ (a + n) ∷ []
@@ -29,14 +31,14 @@ count_changed p q j zero h same holds = absurd (omega arith)
 count_changed p q j (suc n) h same holds =
     ⊎_elim
     (λ (here : n ≡ j).
-      let before = count_same p q n (λ k l. same k (λ e. omega arith)) in
-      let now : cond {A = ℕ} (p n) 1 0 ≡ 1 = rw here (rw holds refl) in
-      let was : cond {A = ℕ} (q n) 1 0 + cond (q j) 0 1 ≡ 1 = rw here (flips (q j)) in
-      omega (arith, count_more p n, count_more q n, before, now, was))
+    let before = count_same p q n (λ k l. same k (λ e. omega arith)) in
+    let now : cond {A = ℕ} (p n) 1 0 ≡ 1 = rw here (rw holds refl) in
+    let was : cond {A = ℕ} (q n) 1 0 + cond (q j) 0 1 ≡ 1 = rw here (flips (q j)) in
+    omega (arith, count_more p n, count_more q n, before, now, was))
     (λ (there : n ≡ j → ⊥).
-      let before = count_changed p q j n (omega (arith, there)) same holds in
-      let e : cond {A = ℕ} (p n) 1 0 ≡ cond (q n) 1 0 = ap (λ b. cond b 1 0) (same n there) in
-      omega (arith, count_more p n, count_more q n, before, e))
+    let before = count_changed p q j n (omega (arith, there)) same holds in
+    let e : cond {A = ℕ} (p n) 1 0 ≡ cond (q n) 1 0 = ap (λ b. cond b 1 0) (same n there) in
+    omega (arith, count_more p n, count_more q n, before, e))
     (cases_eq n j)
   where
     flips : (b : Bool) → cond {A = ℕ} b 1 0 + cond b 0 1 ≡ 1
@@ -73,3 +75,18 @@ any_at_from p a (suc n) k g l holds =
 
 pub any_at : (p : ℕ → Bool) (n k : ℕ) → k < n → p k ≡ true → list_any p (range_with_len 0 n) ≡ true
 any_at p n k l holds = any_at_from p 0 n k (omega arith) (omega arith) holds
+
+pub sum_same : (f g : ℕ → ℕ) (n : ℕ) → ((k : ℕ) → k < n → f k ≡ g k) → sum_by f (range_with_len 0 n) ≡ sum_by g (range_with_len 0 n)
+sum_same f g zero h = refl
+sum_same f g (suc n) h =
+    let e : 0 + n ≡ n = omega arith in
+    let last = rw e at (range_more 0 n) in
+    let more_f = ap (λ r. sum_by f r) last ∙ sum_by_push f (range_with_len 0 n) n in
+    let more_g = ap (λ r. sum_by g r) last ∙ sum_by_push g (range_with_len 0 n) n in
+    omega (arith, more_f, more_g, sum_same f g n (λ k l. h k (omega arith)), h n (omega arith))
+
+-- a sum over a list, place by place
+pub sum_by-places : {X : Type 0} (f : X → ℕ) (xs : List X) (d : X) → sum_by f xs ≡ sum_by (λ k. f (get_or xs k d)) (range_with_len 0 (length xs))
+sum_by-places f xs d =
+    ap (λ r. sum_by f r) (fill_by_all (λ k. get_or xs k d) xs (length xs) d refl (λ k l. refl))
+    ∙ fold-map (λ a x. a + f x) (λ k. get_or xs k d) 0 (range_with_len 0 (length xs))

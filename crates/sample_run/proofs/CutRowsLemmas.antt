@@ -103,15 +103,15 @@ AddsRows-set rows at row more h e same =
     let sum : CutRow = record { mask = row.mask; hours = row.hours + more.hours; unserved = row.unserved + more.unserved } in
     let mask_is : row.mask ≡ (get_or rows at no_row).mask = ap (λ (r : CutRow). r.mask) e in
     let hours_are : (m : ℕ) → hours_at (set rows at sum) m ≡ hours_at rows m + hours_at (more ∷ []) m = λ m.
-      let split = share-add row.mask row.hours more.hours m in
-      let mine : share row.mask more.hours m ≡ share more.mask more.hours m = ap (λ k. share k more.hours m) same in
-      let old : share row.mask row.hours m ≡ share (get_or rows at no_row).mask (get_or rows at no_row).hours m = ap (λ (r : CutRow). share r.mask r.hours m) e in
-      omega (arith, hours_at-set rows at sum m h, hours_at-one more m, split, mine, old) in
+    let split = share-add row.mask row.hours more.hours m in
+    let mine : share row.mask more.hours m ≡ share more.mask more.hours m = ap (λ k. share k more.hours m) same in
+    let old : share row.mask row.hours m ≡ share (get_or rows at no_row).mask (get_or rows at no_row).hours m = ap (λ (r : CutRow). share r.mask r.hours m) e in
+    omega (arith, hours_at-set rows at sum m h, hours_at-one more m, split, mine, old) in
     let energy_is : (m : ℕ) → unserved_at (set rows at sum) m ≡ unserved_at rows m + unserved_at (more ∷ []) m = λ m.
-      let split = share-add row.mask row.unserved more.unserved m in
-      let mine : share row.mask more.unserved m ≡ share more.mask more.unserved m = ap (λ k. share k more.unserved m) same in
-      let old : share row.mask row.unserved m ≡ share (get_or rows at no_row).mask (get_or rows at no_row).unserved m = ap (λ (r : CutRow). share r.mask r.unserved m) e in
-      omega (arith, unserved_at-set rows at sum m h, unserved_at-one more m, split, mine, old) in
+    let split = share-add row.mask row.unserved more.unserved m in
+    let mine : share row.mask more.unserved m ≡ share more.mask more.unserved m = ap (λ k. share k more.unserved m) same in
+    let old : share row.mask row.unserved m ≡ share (get_or rows at no_row).mask (get_or rows at no_row).unserved m = ap (λ (r : CutRow). share r.mask r.unserved m) e in
+    omega (arith, unserved_at-set rows at sum m h, unserved_at-one more m, split, mine, old) in
     record {
       hours = hours_are;
       unserved = energy_is;
@@ -171,9 +171,9 @@ AddsFirst-more old more i rows new row h e first adds =
       hours = λ m. omega (arith, adds.hours m, first.hours m, one_hours m, hours_at-take_more more i m h);
       unserved = λ m. omega (arith, adds.unserved m, first.unserved m, one_unserved m, unserved_at-take_more more i m h);
       ascending = λ low end olds mores.
-        let at = AreRows-at low end more i mores h in
-        let one : AreRows low end (row ∷ []) = subst (λ (r : CutRow). AreRows low end (r ∷ [])) (sym e) (at.0, at.1, at.2, tt) in
-        adds.ascending low end (first.ascending low end olds mores) one;
+          let at = AreRows-at low end more i mores h in
+          let one : AreRows low end (row ∷ []) = subst (λ (r : CutRow). AreRows low end (r ∷ [])) (sym e) (at.0, at.1, at.2, tt) in
+          adds.ascending low end (first.ascending low end olds mores) one;
     }
 
 pub AddsFirst-all : (old more : List CutRow) (i : ℕ) (rows : List CutRow) → length more ≤ i → AddsFirst old more i rows → AddsRows old more rows
@@ -253,23 +253,23 @@ rows_are hours unserved low (suc k) (row ∷ rows) are hs us =
     let after : AreRows (row.mask + 1) (low + 1 + k) rows = rw e at are.3 in
     ⊎_elim
     (λ (here : row.mask ≡ low).
-      let mine : share row.mask row.hours low ≡ row.hours = rw (← here) (share_own row.mask row.hours) in
-      let hours_is : row.hours ≡ hours low = omega (arith, hs low (omega arith) (omega arith), hours_at-cons row rows low, hours_at-absent (row.mask + 1) (low + 1 + k) rows low after (omega arith), mine) in
-      let my_energy : share row.mask row.unserved low ≡ row.unserved = rw (← here) (share_own row.mask row.unserved) in
-      let unserved_is : row.unserved ≡ unserved low = omega (arith, us low (omega arith) (omega arith), unserved_at-cons row rows low, unserved_at-absent (row.mask + 1) (low + 1 + k) rows low after (omega arith), my_energy) in
-      let in_order : AreRows (low + 1) (low + 1 + k) rows = rw here at after in
-      let rest = rows_are hours unserved (low + 1) k rows in_order
-          (λ m g l. omega (arith, hs m (omega arith) (omega arith), hours_at-cons row rows m, share_other row.mask row.hours m (λ x. omega arith)))
-          (λ m g l. omega (arith, us m (omega arith) (omega arith), unserved_at-cons row rows m, share_other row.mask row.unserved m (λ x. omega arith))) in
-      ap (λ r. r ∷ rows) (same_row row low (hours low) (unserved low) here hours_is unserved_is)
-      ∙ ap (λ rs. record { mask = low; hours = hours low; unserved = unserved low } ∷ rs) rest
-      ∙ sym (rows_of-cons_yes hours unserved low (range_with_len (low + 1) k) (let some : 0 < row.hours = are.2 in omega arith)))
+    let mine : share row.mask row.hours low ≡ row.hours = rw (← here) (share_own row.mask row.hours) in
+    let hours_is : row.hours ≡ hours low = omega (arith, hs low (omega arith) (omega arith), hours_at-cons row rows low, hours_at-absent (row.mask + 1) (low + 1 + k) rows low after (omega arith), mine) in
+    let my_energy : share row.mask row.unserved low ≡ row.unserved = rw (← here) (share_own row.mask row.unserved) in
+    let unserved_is : row.unserved ≡ unserved low = omega (arith, us low (omega arith) (omega arith), unserved_at-cons row rows low, unserved_at-absent (row.mask + 1) (low + 1 + k) rows low after (omega arith), my_energy) in
+    let in_order : AreRows (low + 1) (low + 1 + k) rows = rw here at after in
+    let rest = rows_are hours unserved (low + 1) k rows in_order
+    (λ m g l. omega (arith, hs m (omega arith) (omega arith), hours_at-cons row rows m, share_other row.mask row.hours m (λ x. omega arith)))
+    (λ m g l. omega (arith, us m (omega arith) (omega arith), unserved_at-cons row rows m, share_other row.mask row.unserved m (λ x. omega arith))) in
+    ap (λ r. r ∷ rows) (same_row row low (hours low) (unserved low) here hours_is unserved_is)
+    ∙ ap (λ rs. record { mask = low; hours = hours low; unserved = unserved low } ∷ rs) rest
+    ∙ sym (rows_of-cons_yes hours unserved low (range_with_len (low + 1) k) (let some : 0 < row.hours = are.2 in omega arith)))
     (λ (ne : row.mask ≡ low → ⊥).
-      let over : low < row.mask = (let ge : low ≤ row.mask = are.0 in omega (arith, ne)) in
-      let in_order : AreRows (low + 1) (low + 1 + k) (row ∷ rows) = (omega arith, rw e at are.1, are.2, after) in
-      let none : hours low ≡ 0 = omega (arith, hs low (omega arith) (omega arith), hours_at-absent (low + 1) (low + 1 + k) (row ∷ rows) low in_order (omega arith)) in
-      rows_are hours unserved (low + 1) k (row ∷ rows) in_order (λ m g l. hs m (omega arith) (omega arith)) (λ m g l. us m (omega arith) (omega arith))
-      ∙ sym (rows_of-cons_no hours unserved low (range_with_len (low + 1) k) none))
+    let over : low < row.mask = (let ge : low ≤ row.mask = are.0 in omega (arith, ne)) in
+    let in_order : AreRows (low + 1) (low + 1 + k) (row ∷ rows) = (omega arith, rw e at are.1, are.2, after) in
+    let none : hours low ≡ 0 = omega (arith, hs low (omega arith) (omega arith), hours_at-absent (low + 1) (low + 1 + k) (row ∷ rows) low in_order (omega arith)) in
+    rows_are hours unserved (low + 1) k (row ∷ rows) in_order (λ m g l. hs m (omega arith) (omega arith)) (λ m g l. us m (omega arith) (omega arith))
+    ∙ sym (rows_of-cons_no hours unserved low (range_with_len (low + 1) k) none))
     (cases_eq row.mask low)
 
 AreRows-lower : (low less end : ℕ) (rows : List CutRow) → AreRows low end rows → less ≤ low → AreRows less end rows
@@ -285,9 +285,9 @@ AreRows-rows_of hours unserved low (suc k) =
     let rest : AreRows (low + 1) (low + suc k) (rows_of hours unserved (range_with_len (low + 1) k)) = rw e at (AreRows-rows_of hours unserved (low + 1) k) in
     ⊎_elim
     (λ (some : 0 < hours low). subst (λ rs. AreRows low (low + suc k) rs) (sym (rows_of-cons_yes hours unserved low (range_with_len (low + 1) k) some))
-      (omega arith, omega arith, some, rest))
+    (omega arith, omega arith, some, rest))
     (λ (none : hours low ≤ 0). subst (λ rs. AreRows low (low + suc k) rs) (sym (rows_of-cons_no hours unserved low (range_with_len (low + 1) k) (omega arith)))
-      (AreRows-lower (low + 1) low (low + suc k) _ rest (omega arith)))
+    (AreRows-lower (low + 1) low (low + suc k) _ rest (omega arith)))
     (cases_lt 0 (hours low))
 
 pub hours_at-rows_of : (hours unserved : ℕ → ℕ) (low k m : ℕ) → low ≤ m → m < low + k → hours_at (rows_of hours unserved (range_with_len low k)) m ≡ hours m
@@ -300,15 +300,15 @@ hours_at-rows_of hours unserved low (suc k) m g l =
     let present : (m ≡ low → ⊥) → hours_at rows m ≡ hours m = λ x. hours_at-rows_of hours unserved (low + 1) k m (omega (arith, x)) (omega arith) in
     ⊎_elim
     (λ (some : 0 < hours low). ap (λ rs. hours_at rs m) (rows_of-cons_yes hours unserved low (range_with_len (low + 1) k) some) ∙ hours_at-cons row rows m ∙
-      ⊎_elim
-      (λ (x : m ≡ low). let own : share low (hours low) m ≡ hours low = rw x (share_own low (hours low)) in let e : hours m ≡ hours low = ap hours x in omega (arith, absent x, own, e))
-      (λ (x : m ≡ low → ⊥). omega (arith, present x, share_other low (hours low) m (λ y. x (sym y))))
-      (cases_eq m low))
+    ⊎_elim
+    (λ (x : m ≡ low). let own : share low (hours low) m ≡ hours low = rw x (share_own low (hours low)) in let e : hours m ≡ hours low = ap hours x in omega (arith, absent x, own, e))
+    (λ (x : m ≡ low → ⊥). omega (arith, present x, share_other low (hours low) m (λ y. x (sym y))))
+    (cases_eq m low))
     (λ (none : hours low ≤ 0). ap (λ rs. hours_at rs m) (rows_of-cons_no hours unserved low (range_with_len (low + 1) k) (omega arith)) ∙
-      ⊎_elim
-      (λ (x : m ≡ low). let e : hours m ≡ hours low = ap hours x in omega (arith, absent x, e))
-      (λ (x : m ≡ low → ⊥). present x)
-      (cases_eq m low))
+    ⊎_elim
+    (λ (x : m ≡ low). let e : hours m ≡ hours low = ap hours x in omega (arith, absent x, e))
+    (λ (x : m ≡ low → ⊥). present x)
+    (cases_eq m low))
     (cases_lt 0 (hours low))
 
 pub unserved_at-rows_of : (hours unserved : ℕ → ℕ) (low k m : ℕ) → low ≤ m → m < low + k → (hours m ≡ 0 → unserved m ≡ 0) → unserved_at (rows_of hours unserved (range_with_len low k)) m ≡ unserved m
@@ -321,13 +321,13 @@ unserved_at-rows_of hours unserved low (suc k) m g l z =
     let present : (m ≡ low → ⊥) → unserved_at rows m ≡ unserved m = λ x. unserved_at-rows_of hours unserved (low + 1) k m (omega (arith, x)) (omega arith) z in
     ⊎_elim
     (λ (some : 0 < hours low). ap (λ rs. unserved_at rs m) (rows_of-cons_yes hours unserved low (range_with_len (low + 1) k) some) ∙ unserved_at-cons row rows m ∙
-      ⊎_elim
-      (λ (x : m ≡ low). let own : share low (unserved low) m ≡ unserved low = rw x (share_own low (unserved low)) in let e : unserved m ≡ unserved low = ap unserved x in omega (arith, absent x, own, e))
-      (λ (x : m ≡ low → ⊥). omega (arith, present x, share_other low (unserved low) m (λ y. x (sym y))))
-      (cases_eq m low))
+    ⊎_elim
+    (λ (x : m ≡ low). let own : share low (unserved low) m ≡ unserved low = rw x (share_own low (unserved low)) in let e : unserved m ≡ unserved low = ap unserved x in omega (arith, absent x, own, e))
+    (λ (x : m ≡ low → ⊥). omega (arith, present x, share_other low (unserved low) m (λ y. x (sym y))))
+    (cases_eq m low))
     (λ (none : hours low ≤ 0). ap (λ rs. unserved_at rs m) (rows_of-cons_no hours unserved low (range_with_len (low + 1) k) (omega arith)) ∙
-      ⊎_elim
-      (λ (x : m ≡ low). let e : hours m ≡ hours low = ap hours x in let f : unserved m ≡ 0 = z (omega arith) in omega (arith, absent x, f))
-      (λ (x : m ≡ low → ⊥). present x)
-      (cases_eq m low))
+    ⊎_elim
+    (λ (x : m ≡ low). let e : hours m ≡ hours low = ap hours x in let f : unserved m ≡ 0 = z (omega arith) in omega (arith, absent x, f))
+    (λ (x : m ≡ low → ⊥). present x)
+    (cases_eq m low))
     (cases_lt 0 (hours low))

@@ -50,9 +50,9 @@ halfway-more old first hour i units now next supply word is h size same_size few
     let hour_is : place / first.components ≡ hour = div-mul-add hour first.components i (omega arith) in
     let unit_is : place % first.components ≡ i = mod-mul-add hour first.components i (omega arith) in
     let drawn : word ≡ word_of first hour i = word_is
-      ∙ ap (λ (d : Draws). draw d.components d.seed d.sample (d.place / d.components) (d.place % d.components)) is.draws_are
-      ∙ ap (λ a. draw first.components first.seed first.sample a (place % first.components)) hour_is
-      ∙ ap (λ b. draw first.components first.seed first.sample hour b) unit_is in
+    ∙ ap (λ (d : Draws). draw d.components d.seed d.sample (d.place / d.components) (d.place % d.components)) is.draws_are
+    ∙ ap (λ a. draw first.components first.seed first.sample a (place % first.components)) hour_is
+    ∙ ap (λ b. draw first.components first.seed first.sample hour b) unit_is in
     let unit = state_in hour (get_or units i no_state) word in
     let was : get_or units i no_state ≡ get_or old i no_state = is.rest i (omega arith) in
     let unit_now : unit ≡ state_in hour (get_or old i no_state) (word_of first hour i) = ap (λ (u : UnitState). state_in hour u word) was ∙ ap (λ w. state_in hour (get_or old i no_state) w) drawn in
@@ -61,9 +61,9 @@ halfway-more old first hour i units now next supply word is h size same_size few
     record {
       draws_are = next_is ∙ ap (λ (d : Draws). record d { place = (d.place + 1) % 2 ^ 68 }) is.draws_are ∙ ap (λ p. record first { place = p }) moved;
       done = λ k l. ⊎_elim
-        (λ (here : k ≡ i). rw (here, get_or-set_same units i unit no_state h) unit_now)
-        (λ (there : k ≡ i → ⊥). get_or-set_other units i k unit no_state there ∙ is.done k (omega (arith, there)))
-        (cases_eq k i);
+          (λ (here : k ≡ i). rw (here, get_or-set_same units i unit no_state h) unit_now)
+          (λ (there : k ≡ i → ⊥). get_or-set_other units i k unit no_state there ∙ is.done k (omega (arith, there)))
+          (cases_eq k i);
       rest = λ k g. get_or-set_other units i k unit no_state (λ e. omega arith) ∙ is.rest k (omega arith);
       supply_is = omega (arith, is.supply_is, sum-set units i unit h);
       bound = omega (arith, is.bound, supply-le unit, capacity);

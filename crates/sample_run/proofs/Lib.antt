@@ -4,3 +4,4 @@ pub mod ResultsLemmas
 pub mod EstimatesLemmas
 pub mod TotalsLemmas
 pub mod HoursLemmas
+pub mod RunLemmas

@@ -75,20 +75,20 @@ last-is run (suc n) =
 pub same_day-is : (run : List HourOutcome) (n : ℕ) (last : Option ℕ) → length run ≤ n → Last run n last → is_short_day run (n / 24) ≡ is_same_day last n
 same_day-is run n None end (never n' all) =
     day-none run (n / 24) (λ h l. ⊎_elim
-      (λ (below : 24 * (n / 24) + h < n). all (24 * (n / 24) + h) below)
-      (λ (above : n ≤ 24 * (n / 24) + h). short-past run _ (omega arith))
-      (cases_lt (24 * (n / 24) + h) n))
+    (λ (below : 24 * (n / 24) + h < n). all (24 * (n / 24) + h) below)
+    (λ (above : n ≤ 24 * (n / 24) + h). short-past run _ (omega arith))
+    (cases_lt (24 * (n / 24) + h) n))
 same_day-is run n (Some l) end (at n' l' below holds all) =
     ⊎_elim
     (λ (same : l / 24 ≡ n / 24).
-      let there : is_short_day run (n / 24) ≡ true = rw same at (day-of run l holds) in
-      there ∙ sym (eq-eqb (l / 24) (n / 24) same))
+    let there : is_short_day run (n / 24) ≡ true = rw same at (day-of run l holds) in
+    there ∙ sym (eq-eqb (l / 24) (n / 24) same))
     (λ (other : l / 24 ≡ n / 24 → ⊥).
-      day-none run (n / 24) (λ h r. ⊎_elim
-        (λ (b : 24 * (n / 24) + h < n). all (24 * (n / 24) + h) (omega (arith, other)) b)
-        (λ (above : n ≤ 24 * (n / 24) + h). short-past run _ (omega arith))
-        (cases_lt (24 * (n / 24) + h) n))
-      ∙ sym (ne_eqb (l / 24) (n / 24) other))
+    day-none run (n / 24) (λ h r. ⊎_elim
+    (λ (b : 24 * (n / 24) + h < n). all (24 * (n / 24) + h) (omega (arith, other)) b)
+    (λ (above : n ≤ 24 * (n / 24) + h). short-past run _ (omega arith))
+    (cases_lt (24 * (n / 24) + h) n))
+    ∙ sym (ne_eqb (l / 24) (n / 24) other))
     (cases_eq (l / 24) (n / 24))
 
 pub next_hour-is : (run : List HourOutcome) (n : ℕ) (last : Option ℕ) → Last run n last → is_short_before run n ≡ is_next_hour last n
@@ -167,9 +167,9 @@ days-more_quiet run o quiet =
     let p' = is_short_day run' in
     let long : count_to p' (length run') ≡ count_to p' (suc n) = ap (λ k. count_to p' k) (length-more run o) in
     let every : (h : ℕ) → is_short_at run' h ≡ is_short_at run h = λ h. ⊎_elim
-      (λ (e : h ≡ n). rw e (short-new run o ∙ quiet ∙ sym (short-past run n (omega arith))))
-      (λ (ne : h ≡ n → ⊥). short-other run o h ne)
-      (cases_eq h n) in
+    (λ (e : h ≡ n). rw e (short-new run o ∙ quiet ∙ sym (short-past run n (omega arith))))
+    (λ (ne : h ≡ n → ⊥). short-other run o h ne)
+    (cases_eq h n) in
     long ∙ count_same p' p (suc n) (λ k l. day-same run run' k (λ h l. every (24 * k + h))) ∙ days-count run
 
 last-more : (run : List HourOutcome) (o : HourOutcome) (n : ℕ) → n ≤ length run → last_short_below (run ++ o ∷ []) n ≡ last_short_below run n
@@ -197,10 +197,10 @@ cut_energy-none (o ∷ run) m h =
     ⊎_elim
     (λ (is : eqb o.cut m ≡ true). let one : cond {A = ℕ} (eqb o.cut m) 1 0 ≡ 1 = cond-true _ _ _ is in absurd (omega (arith, hs, one)))
     (λ (isnt : eqb o.cut m ≡ false).
-      let none : cond {A = ℕ} (eqb o.cut m) 1 0 ≡ 0 = cond-false _ _ _ isnt in
-      let nothing : cond (eqb o.cut m) (sum o.unserved) 0 ≡ 0 = cond-false _ _ _ isnt in
-      let rest = cut_energy-none run m (omega (arith, hs, none)) in
-      omega (arith, es, nothing, rest))
+    let none : cond {A = ℕ} (eqb o.cut m) 1 0 ≡ 0 = cond-false _ _ _ isnt in
+    let nothing : cond (eqb o.cut m) (sum o.unserved) 0 ≡ 0 = cond-false _ _ _ isnt in
+    let rest = cut_energy-none run m (omega (arith, hs, none)) in
+    omega (arith, es, nothing, rest))
     (cases_Bool (eqb o.cut m))
 
 -- ---- tallies
@@ -253,17 +253,17 @@ tally-quiet room run t e =
     let none_there : (m : ℕ) → 1 ≤ m → cond {A = ℕ} (eqb 0 m) (sum (0 ∷ [])) 0 ≡ 0 = λ m g. cond-false _ _ _ (ne_eqb 0 m (λ x. omega arith)) in
     subst (λ (x : Tally). record x { counted = x.counted + 1 } ≡ tally_of room 1 (run ++ o ∷ [])) (sym e)
     (same_tally (record old { counted = old.counted + 1 }) (tally_of room 1 (run ++ o ∷ [])) refl
-      (omega (arith, length-more run o))
-      (sym (last-new run o))
-      (omega (arith, hours-more run o))
-      (sym (days-more_quiet run o refl))
-      (omega (arith, events-more run o))
-      (omega (arith, energy-more run o))
-      (ap (λ x. x ∷ []) (omega (arith, zone-more run o 0)))
-      (rows_are (cut_hours (run ++ o ∷ [])) (cut_energy (run ++ o ∷ [])) 1 (2 ^ 1 - 1) old.figures.cuts
-        (AreRows-rows_of (cut_hours run) (cut_energy run) 1 (2 ^ 1 - 1))
-        (λ m g l. omega (arith, hours_at-rows_of (cut_hours run) (cut_energy run) 1 (2 ^ 1 - 1) m g l, cut_hours-more run o m, other m g))
-        (λ m g l. omega (arith, unserved_at-rows_of (cut_hours run) (cut_energy run) 1 (2 ^ 1 - 1) m g l (cut_energy-none run m), cut_energy-more run o m, none_there m g))))
+    (omega (arith, length-more run o))
+    (sym (last-new run o))
+    (omega (arith, hours-more run o))
+    (sym (days-more_quiet run o refl))
+    (omega (arith, events-more run o))
+    (omega (arith, energy-more run o))
+    (ap (λ x. x ∷ []) (omega (arith, zone-more run o 0)))
+    (rows_are (cut_hours (run ++ o ∷ [])) (cut_energy (run ++ o ∷ [])) 1 (2 ^ 1 - 1) old.figures.cuts
+    (AreRows-rows_of (cut_hours run) (cut_energy run) 1 (2 ^ 1 - 1))
+    (λ m g l. omega (arith, hours_at-rows_of (cut_hours run) (cut_energy run) 1 (2 ^ 1 - 1) m g l, cut_hours-more run o m, other m g))
+    (λ m g l. omega (arith, unserved_at-rows_of (cut_hours run) (cut_energy run) 1 (2 ^ 1 - 1) m g l (cut_energy-none run m), cut_energy-more run o m, none_there m g))))
 
 not-flips : (b : Bool) → cond {A = ℕ} (not b) 1 0 ≡ cond b 0 1
 not-flips true = refl
@@ -292,17 +292,17 @@ tally-short room run t u rows some added e =
     let energy_is : (m : ℕ) → cond (eqb o.cut m) (sum (u ∷ [])) 0 ≡ cond (eqb 1 m) u 0 = λ m. ap (λ k. cond (eqb k m) (sum (u ∷ [])) 0) cut_is ∙ ap (λ k. cond (eqb 1 m) k 0) (let s : sum (u ∷ []) ≡ u = omega arith in s) in
     ap shape e ∙
     same_tally (shape old) (tally_of room 1 (run ++ o ∷ [])) refl
-      (omega (arith, length-more run o))
-      (sym (last-new run o ∙ cond-true _ _ _ falls))
-      (omega (arith, hours-more run o, one))
-      (omega (arith, days-more_short run o falls, new_day))
-      (omega (arith, events-more run o, started))
-      (omega (arith, energy-more run o))
-      (ap (λ x. x ∷ []) (omega (arith, zone-more run o 0)))
-      (rows_are (cut_hours (run ++ o ∷ [])) (cut_energy (run ++ o ∷ [])) 1 (2 ^ 1 - 1) rows
-        (adds.ascending 1 2 (AreRows-rows_of (cut_hours run) (cut_energy run) 1 (2 ^ 1 - 1)) (omega arith, omega arith, omega arith, tt))
-        (λ m g l. omega (arith, adds.hours m, hours_at-one (record { mask = 1; hours = 1; unserved = u }) m, hours_at-rows_of (cut_hours run) (cut_energy run) 1 (2 ^ 1 - 1) m g l, cut_hours-more run o m, share_is m))
-        (λ m g l. omega (arith, adds.unserved m, unserved_at-one (record { mask = 1; hours = 1; unserved = u }) m, unserved_at-rows_of (cut_hours run) (cut_energy run) 1 (2 ^ 1 - 1) m g l (cut_energy-none run m), cut_energy-more run o m, energy_is m)))
+    (omega (arith, length-more run o))
+    (sym (last-new run o ∙ cond-true _ _ _ falls))
+    (omega (arith, hours-more run o, one))
+    (omega (arith, days-more_short run o falls, new_day))
+    (omega (arith, events-more run o, started))
+    (omega (arith, energy-more run o))
+    (ap (λ x. x ∷ []) (omega (arith, zone-more run o 0)))
+    (rows_are (cut_hours (run ++ o ∷ [])) (cut_energy (run ++ o ∷ [])) 1 (2 ^ 1 - 1) rows
+    (adds.ascending 1 2 (AreRows-rows_of (cut_hours run) (cut_energy run) 1 (2 ^ 1 - 1)) (omega arith, omega arith, omega arith, tt))
+    (λ m g l. omega (arith, adds.hours m, hours_at-one (record { mask = 1; hours = 1; unserved = u }) m, hours_at-rows_of (cut_hours run) (cut_energy run) 1 (2 ^ 1 - 1) m g l, cut_hours-more run o m, share_is m))
+    (λ m g l. omega (arith, adds.unserved m, unserved_at-one (record { mask = 1; hours = 1; unserved = u }) m, unserved_at-rows_of (cut_hours run) (cut_energy run) 1 (2 ^ 1 - 1) m g l (cut_energy-none run m), cut_energy-more run o m, energy_is m)))
 
 -- ---- ranges
 zeros-at : (n z : ℕ) → get_or (replicate {A = ℕ} n 0) z 0 ≡ 0

@@ -103,38 +103,44 @@ totals-more zones runs run t f zs rows more_zones more_rows is f_is =
     let adds : AddsRows old.cuts figs.cuts rows = subst (λ (y : Figures). AddsRows old.cuts y.cuts rows) f_is (subst (λ (x : Sheet). AddsRows x.cuts f.cuts rows) is more_rows) in
     let long : length old.zones ≡ zones = length-map-range_with_len (λ zone. sums_of (λ r. zone_energy r zone) runs) 0 zones in
     let zone_at : (k : ℕ) → k < zones → get_or zs k no_sums ≡ sums_of (λ r. zone_energy r k) (runs ++ run ∷ []) = λ k l.
-      let was = get_or-map-range_with_len (λ zone. sums_of (λ r. zone_energy r zone) runs) 0 zones k k no_sums l (omega arith) in
-      let value = get_or-map-range_with_len (zone_energy run) 0 zones k k 0 l (omega arith) in
-      zones_more.each k (omega (arith, long)) ∙ ap (λ s. with_value s (get_or figs.zones k 0)) was ∙ ap (λ v. with_value (sums_of (λ r. zone_energy r k) runs) v) value ∙ sums-more (λ r. zone_energy r k) runs run in
+    let was = get_or-map-range_with_len (λ zone. sums_of (λ r. zone_energy r zone) runs) 0 zones k k no_sums l (omega arith) in
+    let value = get_or-map-range_with_len (zone_energy run) 0 zones k k 0 l (omega arith) in
+    zones_more.each k (omega (arith, long)) ∙ ap (λ s. with_value s (get_or figs.zones k 0)) was ∙ ap (λ v. with_value (sums_of (λ r. zone_energy r k) runs) v) value ∙ sums-more (λ r. zone_energy r k) runs run in
     ap (λ x. shape x f) is ∙ ap (λ y. shape old y) f_is ∙
     same_sheet (shape old figs) (totals_of zones (runs ++ run ∷ []))
-      (omega (arith, length-append runs (run ∷ [])))
-      (sums-more short_hours runs run)
-      (sums-more short_days runs run)
-      (sums-more short_events runs run)
-      (sums-more unserved_energy runs run)
-      (fill_by_all (λ zone. sums_of (λ r. zone_energy r zone) (runs ++ run ∷ [])) zs zones no_sums (zones_more.len ∙ long) zone_at)
-      (rows_are (λ m. sum_by (λ r. cut_hours r m) (runs ++ run ∷ [])) (λ m. sum_by (λ r. cut_energy r m) (runs ++ run ∷ [])) 1 (2 ^ zones - 1) rows
-        (adds.ascending 1 (1 + (2 ^ zones - 1))
-          (AreRows-rows_of (λ m. sum_by (λ r. cut_hours r m) runs) (λ m. sum_by (λ r. cut_energy r m) runs) 1 (2 ^ zones - 1))
-          (AreRows-rows_of (cut_hours run) (cut_energy run) 1 (2 ^ zones - 1)))
-        (λ m g l. omega (arith, adds.hours m,
-          hours_at-rows_of (λ k. sum_by (λ r. cut_hours r k) runs) (λ k. sum_by (λ r. cut_energy r k) runs) 1 (2 ^ zones - 1) m g l,
-          hours_at-rows_of (cut_hours run) (cut_energy run) 1 (2 ^ zones - 1) m g l,
-          sum_by_push (λ (r : List HourOutcome). cut_hours r m) runs run))
-        (λ m g l. omega (arith, adds.unserved m,
-          unserved_at-rows_of (λ k. sum_by (λ r. cut_hours r k) runs) (λ k. sum_by (λ r. cut_energy r k) runs) 1 (2 ^ zones - 1) m g l (energy-none runs m),
-          unserved_at-rows_of (cut_hours run) (cut_energy run) 1 (2 ^ zones - 1) m g l (cut_energy-none run m),
-          sum_by_push (λ (r : List HourOutcome). cut_energy r m) runs run)))
+    (omega (arith, length-append runs (run ∷ [])))
+    (sums-more short_hours runs run)
+    (sums-more short_days runs run)
+    (sums-more short_events runs run)
+    (sums-more unserved_energy runs run)
+    (fill_by_all (λ zone. sums_of (λ r. zone_energy r zone) (runs ++ run ∷ [])) zs zones no_sums (zones_more.len ∙ long) zone_at)
+    (rows_are (λ m. sum_by (λ r. cut_hours r m) (runs ++ run ∷ [])) (λ m. sum_by (λ r. cut_energy r m) (runs ++ run ∷ [])) 1 (2 ^ zones - 1) rows
+    (adds.ascending 1 (1 + (2 ^ zones - 1))
+    (AreRows-rows_of (λ m. sum_by (λ r. cut_hours r m) runs) (λ m. sum_by (λ r. cut_energy r m) runs) 1 (2 ^ zones - 1))
+    (AreRows-rows_of (cut_hours run) (cut_energy run) 1 (2 ^ zones - 1)))
+    (λ m g l. omega (
+      arith,
+      adds.hours m,
+      hours_at-rows_of (λ k. sum_by (λ r. cut_hours r k) runs) (λ k. sum_by (λ r. cut_energy r k) runs) 1 (2 ^ zones - 1) m g l,
+      hours_at-rows_of (cut_hours run) (cut_energy run) 1 (2 ^ zones - 1) m g l,
+      sum_by_push (λ (r : List HourOutcome). cut_hours r m) runs run,
+    ))
+    (λ m g l. omega (
+      arith,
+      adds.unserved m,
+      unserved_at-rows_of (λ k. sum_by (λ r. cut_hours r k) runs) (λ k. sum_by (λ r. cut_energy r k) runs) 1 (2 ^ zones - 1) m g l (energy-none runs m),
+      unserved_at-rows_of (cut_hours run) (cut_energy run) 1 (2 ^ zones - 1) m g l (cut_energy-none run m),
+      sum_by_push (λ (r : List HourOutcome). cut_energy r m) runs run,
+    )))
 
 pub IsSheet-more : (t : Sheet) (hours days events unserved : ℕ) (values : List ℕ) (cuts : List CutRow) (zs : List Sums) (rows : List CutRow) → IsSheet t → t.samples < 1000000 → hours ≤ 8784 → days ≤ 8784 → events ≤ 8784 → unserved ≤ 1756800000 → ((z : ℕ) → z < length t.zones → get_or values z 0 ≤ 1756800000) → ZonesMore t.zones values zs → AddsRows t.cuts cuts rows → AreRows 1 (2 ^ length t.zones) cuts → ((m : ℕ) → hours_at cuts m ≤ 8784) → ((m : ℕ) → unserved_at cuts m ≤ 1756800000)
     → IsSheet (sheet (t.samples + 1) (with_value t.hours hours) (with_value t.days days) (with_value t.events events) (with_value t.unserved unserved) zs rows)
 IsSheet-more t hours days events unserved values cuts zs rows is few h d e u vs more_zones added in_order hs us =
     let zone_is : (z : ℕ) → AreSums (get_or zs z no_sums) (t.samples + 1) = λ z.
-      ⊎_elim
-      (λ (l : z < length t.zones). rw (more_zones.each z l) (AreSums-more (get_or t.zones z no_sums) t.samples (get_or values z 0) (is.zones z) (vs z l)))
-      (λ (g : length t.zones ≤ z). rw (get_or_past zs z no_sums (omega (arith, more_zones.len))) (AreSums-no (t.samples + 1)))
-      (cases_lt z (length t.zones)) in
+    ⊎_elim
+    (λ (l : z < length t.zones). rw (more_zones.each z l) (AreSums-more (get_or t.zones z no_sums) t.samples (get_or values z 0) (is.zones z) (vs z l)))
+    (λ (g : length t.zones ≤ z). rw (get_or_past zs z no_sums (omega (arith, more_zones.len))) (AreSums-no (t.samples + 1)))
+    (cases_lt z (length t.zones)) in
     record {
       samples = omega arith;
       hours = AreSums-more t.hours t.samples hours is.hours (omega arith);

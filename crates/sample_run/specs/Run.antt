@@ -1,9 +1,9 @@
 -- The run of a sample: what each hour of it leaves.
-use Rattle.std.specs.Prelude.{◌≡◌, ℕ, ◌+◌, ◌-◌, ◌<◌, List, length, map, sum_by, slice_get, Some, if◌then◌else◌}
+use Rattle.std.specs.Prelude.{◌≡◌, ℕ, ◌+◌, ◌-◌, ◌<◌, List, length, map, sum_by, slice_index_or, if◌then◌else◌}
 use Rattle.std.specs.List.{range_with_len}
 use Rattle.system_model.specs.System.{SystemParts, unit_count, hour_count, capacity_of, load_at, variable_at}
 use Rattle.sample_run.specs.Outages.{unit_is_up}
-use Rattle.sample_run.specs.Results.{HourOutcome, one_zone_outcome}
+use Rattle.sample_run.specs.Results.{HourOutcome, no_outcome, one_zone_outcome}
 
 -- the capacity of the units that are up in an hour, in MW
 unfoldable pub up_capacity : SystemParts → ℕ → ℕ → ℕ → ℕ
@@ -23,7 +23,7 @@ run_of system seed sample =
 -- a list of outcomes is a run of the sample: it has the outcome of each hour, and no more
 pub record IsRun (system : SystemParts) (seed sample : ℕ) (run : List HourOutcome) : Type 0 where
   pub hours : length run ≡ hour_count system
-  pub each : (hour : ℕ) → hour < hour_count system → slice_get run hour ≡ Some (one_zone_outcome (unserved_in system seed sample hour))
+  pub each : (hour : ℕ) → hour < hour_count system → slice_index_or run hour no_outcome ≡ one_zone_outcome (unserved_in system seed sample hour)
 
 -- a sample has exactly one run
 pub record IsOnlyRun (system : SystemParts) (seed sample : ℕ) (run : List HourOutcome) : Type 0 where

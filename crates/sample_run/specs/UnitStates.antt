@@ -19,9 +19,11 @@ pub record IsStateOf (state : UnitState) (unit : UnitPart) : Type 0 where
 -- the state in an hour, after the one before it
 abbrev pub state_in : ℕ → UnitState → ℕ → UnitState
 state_in hour state word =
-    record state { is_up =
-      if hour == 0 then not (nat_lt word state.starts_out)
-      else (if state.is_up then not (nat_lt word state.fails) else nat_lt word state.is_repaired) }
+    record state {
+      is_up =
+          if hour == 0 then not (nat_lt word state.starts_out)
+          else (if state.is_up then not (nat_lt word state.fails) else nat_lt word state.is_repaired);
+    }
 
 -- what a unit gives
 abbrev pub supply_of : UnitState → ℕ

@@ -2,11 +2,10 @@ ghost use Rattle.std.specs.Prelude.{◌≡◌, ℕ, ◌+◌, ◌*◌, ◌^◌, �
 ghost use Rattle.sample_run.specs.CutRows.{hours_at, unserved_at, AreRows};
 ghost use Rattle.sample_run.specs.Results.{HourOutcome, one_zone_outcome, is_same_day, is_next_hour, tally_of};
 
+use crate::cut_rows::{CutRow, add_row};
 use ra_base::OutOfMemory;
 use std::alloc::Global;
 use std::marker::Model;
-
-use crate::cut_rows::{CutRow, add_row};
 
 /// What a sample came to: hours, days and events of shortfall, unserved energy in MWh, over all
 /// zones and by zone, and a row for each cut. Its hours come in one by one.

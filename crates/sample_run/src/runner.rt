@@ -5,15 +5,14 @@ ghost use Rattle.sample_run.specs.Results.{figures_of};
 ghost use Rattle.sample_run.specs.Run.{run_of, IsOnlyRun};
 ghost use Rattle.sample_run.specs.UnitStates.{AreStatesOf};
 
-use ra_base::OutOfMemory;
-use std::alloc::Global;
-use std::marker::Model;
-use system_model::System;
-
 use crate::draw::SampleStream;
 use crate::hours::up_supply;
 use crate::results::SampleResult;
 use crate::unit_states::UnitState;
+use ra_base::OutOfMemory;
+use std::alloc::Global;
+use std::marker::Model;
+use system_model::System;
 
 /// Runs samples of a system under a seed. Each sample has exactly one run, whatever ran before it.
 #[derive(Drop)]

@@ -4,13 +4,12 @@ ghost use Rattle.sample_run.specs.Estimates.{AreSums, FitsMore, with_value, no_s
 ghost use Rattle.sample_run.specs.Results.{HourOutcome, figures_of};
 ghost use Rattle.sample_run.specs.Totals.{part_of, zone_of, totals_of};
 
-use ra_base::OutOfMemory;
-use std::alloc::Global;
-use std::marker::Model;
-
 use crate::cut_rows::{CutRow, add_rows};
 use crate::estimates::Sums;
 use crate::results::SampleResult;
+use ra_base::OutOfMemory;
+use std::alloc::Global;
+use std::marker::Model;
 
 /// A part of totals.
 #[derive(Clone, Copy, Debug, PartialEq, Eq)]

@@ -33,12 +33,13 @@ returns-else-at-len-clause-added c =
     let stops = rw c.deref.ensures.value at c.place_of-at.ensures.above in
     let passed = rw c.deref.ensures.value at c.place_of-at.ensures.below in
     let above : at < length rows → c.args.more.mask < (get_or rows at no_row).mask = λ h.
-      elim c.else-at-len.branch [
-        else-at-len-via-then-at-len+else-index-more w ↦
+    elim c.else-at-len.branch [
+      | else-at-len-via-then-at-len+else-index-more w ↦
           let is : w.index.result.now ≡ get_or rows at no_row = get_or_read rows at w.index.result.now h w.index.ensures no_row in
           let mask_is = ap (λ (r : CutRow). r.mask) is in
           omega (arith, w.if-index-more.false, mask_is, stops h)
-        | else-at-len-via-else-at-len w ↦ absurd (omega (arith, w.if-at-len.false)) ] in
+      | else-at-len-via-else-at-len w ↦ absurd (omega (arith, w.if-at-len.false))
+    ] in
     let added = AddsRows-insert rows at c.args.more (omega arith) passed above in
     let e : c.insert.new.self.items ≡ insert rows at c.args.more = search rules in
     subst (λ (xs : List CutRow). AddsRows rows (c.args.more ∷ []) xs) (sym e) added
