@@ -1,3 +1,12 @@
 pub mod Spelled
+pub mod Fronts
+pub mod Digits
+pub mod Worth
+pub mod Below
+pub mod Laws
+pub mod Scans
+pub mod ScanLaws
+pub mod Caps
+pub mod Cuts
 pub mod TenPowers
 pub mod Appends

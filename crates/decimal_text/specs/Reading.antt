@@ -1,6 +1,6 @@
 -- Reading as a function on lists, for definitions above that compute. That it answers what the grammar
 -- says, and that alone, is the law on `read_whole` and `read_billionths`.
-use Rattle.std.specs.Prelude.{ℕ, ◌+◌, ◌-◌, ◌*◌, ◌^◌, Bool, ◌&&◌, ◌||◌, List, [], ◌∷◌, ◌++◌, length, take, drop, Option, None, Some, Result, Ok, Err, if◌then◌else◌, ◌==◌, nat_lt, unwrap_or}
+use Rattle.std.specs.Prelude.{ℕ, suc, ◌+◌, ◌-◌, ◌*◌, ◌^◌, Bool, ◌&&◌, ◌||◌, List, [], ◌∷◌, ◌++◌, length, take, drop, Option, None, Some, Result, Ok, Err, if◌then◌else◌, ◌==◌, nat_lt, unwrap_or}
 use Rattle.std.specs.Option.{option_map}
 use Rattle.std.specs.Char.{is_digit}
 use Rattle.std.specs.Str.Parse.{digits_value}
@@ -77,7 +77,7 @@ scaled shift n = digits_value 10 (take (kept shift n) (digits_of n)) * 10 ^ (kep
 -- how many zeros (48) stand in front, where another byte follows
 abbrev pub first_not_zero : List ℕ → Option ℕ
 first_not_zero [] = None
-first_not_zero (b ∷ bs) = if b == 48 then option_map (λ k. k + 1) (first_not_zero bs) else Some 0
+first_not_zero (b ∷ bs) = if b == 48 then option_map (λ k. suc k) (first_not_zero bs) else Some 0
 
 unfoldable pub first_below_one : Numeral → Option ℕ
 first_below_one n = option_map (λ k. place_of n (kept 0 n + k)) (first_not_zero (drop (kept 0 n) (digits_of n)))

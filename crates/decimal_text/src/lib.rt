@@ -3,7 +3,14 @@
 
 mod fault;
 mod powers;
+mod reading;
+mod scaling;
+mod scanning;
 mod writing;
 
 pub use fault::NumberFault;
+pub use reading::{read_billionths, read_whole};
 pub use writing::{put_fixed, put_whole};
+
+#[cfg(test)]
+mod tests;
