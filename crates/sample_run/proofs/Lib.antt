@@ -5,3 +5,4 @@ pub mod EstimatesLemmas
 pub mod TotalsLemmas
 pub mod HoursLemmas
 pub mod RunLemmas
+pub mod Laws

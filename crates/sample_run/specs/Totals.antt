@@ -1,6 +1,8 @@
 -- Sums over samples: each figure's plain sum and the sum of its squares, and cut rows added by mask.
 use Rattle.std.specs.Prelude.{◌≡◌, ℕ, ◌*◌, ◌^◌, ◌<◌, ◌≤◌, List, length, map, sum_by, slice_index, slice_index_or}
 use Rattle.std.specs.List.{range_with_len}
+use Rattle.system_model.specs.System.{SystemParts}
+use Rattle.sample_run.specs.Run.{run_of}
 use Rattle.sample_run.specs.declared.cut_rows.CutRow.{CutRow}
 use Rattle.sample_run.specs.declared.estimates.Sums.{Sums}
 use Rattle.sample_run.specs.declared.totals.Part.{Part}
@@ -37,6 +39,10 @@ totals_of zones runs = record {
   zones = map (λ zone. sums_of (λ run. zone_energy run zone) runs) (range_with_len 0 zones);
   cuts = rows_of (λ m. sum_by (λ run. cut_hours run m) runs) (λ m. sum_by (λ run. cut_energy run m) runs) (masks zones);
 }
+
+-- the runs of the samples 0 .. samples - 1 of a system under a seed
+abbrev pub first_runs : SystemParts → ℕ → ℕ → List (List HourOutcome)
+first_runs system seed samples = map (run_of system seed) (range_with_len 0 samples)
 
 -- the sums of a part
 abbrev pub part_of : Sheet → Part → Sums
