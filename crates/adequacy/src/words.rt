@@ -59,7 +59,7 @@ fn is_short_numeral(word: &str, most: usize) -> bool
     !word.is_empty() && word.len() <= most && are_digits(word.as_bytes())
 }
 
-fn are_digits(bytes: &[u8]) -> bool
+pub(crate) fn are_digits(bytes: &[u8]) -> bool
     ensures { result ≡ all_ascii_digits bytes.now }
 {
     for byte in bytes {

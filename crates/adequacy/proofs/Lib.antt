@@ -1,0 +1,7 @@
+pub mod PlainNumbers
+pub mod FieldLaws
+pub mod RowLaws
+pub mod TableLaws
+pub mod ReadingLaws
+pub mod TableSteps
+pub mod PlainAnswers
