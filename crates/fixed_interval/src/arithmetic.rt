@@ -25,12 +25,9 @@ pub fn mix(up: Enclosure, out: Enclosure, f: u64, r: u64) -> Enclosure
     ensures encloses { (a m b n : ℕ) → Encloses up a m → Encloses out b n
         → Encloses result (r * (a * n) + f * (b * m)) ((f + r) * (m * n)) }
 {
-    let weight = f as u128 + r as u128;
-    let low = r as u128 * up.low + f as u128 * out.low;
-    let high = r as u128 * up.high + f as u128 * out.high;
     Enclosure {
-        low: low / weight,
-        high: (high + (weight - 1)) / weight,
+        low: low_mean(up.low, out.low, f, r),
+        high: high_mean(up.high, out.high, f, r),
     }
 }
 
@@ -61,4 +58,48 @@ pub fn scale(a: Enclosure, times: u32) -> Enclosure
         low: a.low * u128::from(times),
         high: a.high * u128::from(times),
     }
+}
+
+// The mean of two ends, rounded down. Where `out` is the larger end, as in each table of outages,
+// only what it has more is weighed: far out in a table that is too little to be divided.
+fn low_mean(up: u128, out: u128, f: u64, r: u64) -> u128
+    requires up_is_part { up ≤ one }
+    requires out_is_part { out ≤ one }
+    requires f_bounded { f ≤ 10 ^ 18 }
+    requires r_bounded { r ≤ 10 ^ 18 }
+    requires weighed { 0 < f + r }
+    ensures { result ≡ floor_div (r * up + f * out) (f + r) }
+{
+    let weight = u128::from(f) + u128::from(r);
+    if out < up {
+        return (u128::from(r) * up + u128::from(f) * out) / weight;
+    }
+    let more = u128::from(f) * u128::from((out - up) as u64);
+    if more < weight {
+        return up;
+    }
+    up + more / weight
+}
+
+// The mean of two ends, rounded up.
+fn high_mean(up: u128, out: u128, f: u64, r: u64) -> u128
+    requires up_is_part { up ≤ one }
+    requires out_is_part { out ≤ one }
+    requires f_bounded { f ≤ 10 ^ 18 }
+    requires r_bounded { r ≤ 10 ^ 18 }
+    requires weighed { 0 < f + r }
+    ensures { result ≡ ceil_div (r * up + f * out) (f + r) }
+{
+    let weight = u128::from(f) + u128::from(r);
+    if out < up {
+        return (u128::from(r) * up + u128::from(f) * out + (weight - 1)) / weight;
+    }
+    let more = u128::from(f) * u128::from((out - up) as u64);
+    if more == 0 {
+        return up;
+    }
+    if more < weight {
+        return up + 1;
+    }
+    up + (more + (weight - 1)) / weight
 }

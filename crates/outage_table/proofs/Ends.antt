@@ -1,9 +1,9 @@
 -- One written end from two: its order, its bounds, and how far the two ends move apart.
 use Rattle.std.proofs.Common.{◌≡◌, ℕ, ◌+◌, ◌-◌, ◌*◌, ◌/◌, ◌<◌, ◌≤◌, ◌∙◌, ap, arith}
-use Rattle.std.proofs.Math.Nat.{mul-le-mul_left, mul-div_left, div-eq_of_lt, lt_of_mul-lt-mul_right}
+use Rattle.std.proofs.Math.Nat.{mul-le-mul_left, lt_of_mul-lt-mul_right}
 use Rattle.std.proofs.lemmas.Nat.{div-mul-add}
 use Rattle.fixed_interval.specs.Rounding.{floor_div, ceil_div}
-use Rattle.fixed_interval.proofs.Rounds.{floor_div-below, floor_div-close, ceil_div-above, ceil_div-close}
+use Rattle.fixed_interval.proofs.Rounds.{floor_div-below, floor_div-close, ceil_div-close}
 
 -- larger values have a mean that is not smaller
 pub mean-le : (f r a b c d : ℕ) → a ≤ c → b ≤ d → r * a + f * b ≤ r * c + f * d

@@ -1,10 +1,10 @@
 -- The weights of the states of units: one more unit at the end, and capacity that is out besides.
-use Rattle.std.proofs.Common.{◌≡◌, ℕ, ◌+◌, ◌-◌, ◌*◌, ◌<◌, ◌≤◌, List, [], ◌∷◌, ◌++◌, All, refl, sym, ap, ◌∙◌, arith}
+use Rattle.std.proofs.Common.{◌≡◌, ℕ, ◌+◌, ◌-◌, ◌*◌, ◌<◌, List, [], ◌∷◌, ◌++◌, All, refl, ap, ◌∙◌, arith}
 use Rattle.std.proofs.lemmas.Bool.Decides.{nat_tests}
 use Rattle.std.proofs.lemmas.List.Elements.{All-head, All-tail}
 use Rattle.system_model.specs.Rates.{AreRates, out_weight, up_weight}
 use Rattle.outage_table.specs.declared.units.PooledUnit.{PooledUnit}
-use Rattle.outage_table.specs.States.{total_capacity, all_weight, outage_weight, short_weight, lack_weight}
+use Rattle.outage_table.specs.States.{all_weight, outage_weight}
 
 -- every unit's rates are probabilities and not both 0
 abbrev pub AreRated : List PooledUnit → Type 0

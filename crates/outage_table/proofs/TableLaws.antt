@@ -1,5 +1,5 @@
 -- What the entries that a table keeps are.
-use Rattle.std.proofs.Common.{◌≡◌, ℕ, zero, suc, ◌+◌, ◌-◌, ◌*◌, ◌^◌, ◌<◌, ◌≤◌, List, [], ◌∷◌, ◌++◌, length, get_or, take, drop, sym, ap, subst, refl, inl, inr, ◌∙◌, arith, All, fold, length-append}
+use Rattle.std.proofs.Common.{◌≡◌, ℕ, zero, suc, ◌+◌, ◌-◌, ◌*◌, ◌^◌, ◌<◌, ◌≤◌, List, [], ◌∷◌, ◌++◌, length, get_or, take, drop, sym, ap, subst, refl, inl, inr, ◌∙◌, arith, length-append}
 use Rattle.std.proofs.lemmas.Bool.{cases_lt}
 use Rattle.std.proofs.lemmas.List.{take_all, drop_all, append-nil}
 use Rattle.std.proofs.lemmas.List.Sums.{fold_push}
@@ -11,8 +11,7 @@ use Rattle.system_model.specs.Rates.{AreRates, out_weight, up_weight}
 use Rattle.outage_table.specs.declared.units.PooledUnit.{PooledUnit}
 use Rattle.outage_table.specs.States.{total_capacity}
 use Rattle.outage_table.specs.Grid.{no_units, with_unit, grid}
-use Rattle.outage_table.specs.Table.{AreEntries, IsFilledUp, AreMixed, IsTable}
-use Rattle.outage_table.proofs.StateLaws.{AreRated}
+use Rattle.outage_table.specs.Table.{IsFilledUp, AreMixed, IsTable}
 use Rattle.outage_table.proofs.GridLaws.{grid_ends, part-high, total_capacity-push}
 
 -- past the last entry the written ends are 0

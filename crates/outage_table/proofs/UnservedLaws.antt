@@ -1,6 +1,6 @@
 -- What is written as unserved: it encloses what is lacking, and its ends are not far apart.
-use Rattle.std.proofs.Common.{◌≡◌, ℕ, zero, suc, ◌+◌, ◌-◌, ◌*◌, ◌<◌, ◌≤◌, List, length, refl, sym, ap, ◌∙◌, arith, add-one}
-use Rattle.std.proofs.Math.Nat.{mul-le-mul_left}
+use Rattle.std.proofs.Common.{◌≡◌, ℕ, zero, suc, ◌+◌, ◌-◌, ◌*◌, ◌≤◌, List, length, refl, inl, inr, arith, add-one}
+use Rattle.std.proofs.lemmas.Bool.{cases_lt}
 use Rattle.fixed_interval.specs.Enclosure.{one}
 use Rattle.fixed_interval.specs.Rounding.{floor_div, ceil_div}
 use Rattle.outage_table.specs.declared.units.PooledUnit.{PooledUnit}
@@ -59,3 +59,13 @@ unserved-width units rated (suc most) =
     width_more (unserved_grid ceil_div units most) (unserved_grid floor_div units most)
     (grid ceil_div units (total_capacity units - most)) (grid floor_div units (total_capacity units - most))
     (2 * length units) most (unserved-width units rated most) ((grid_ends units rated).width (total_capacity units - most))
+
+-- under a larger need no less is unserved
+pub unserved_grid-rises : (round : ℕ → ℕ → ℕ) (units : List PooledUnit) (need more : ℕ) → need ≤ more
+    → unserved_grid round units need ≤ unserved_grid round units more
+unserved_grid-rises round units need zero h =
+    let none : need ≡ 0 = omega arith in rw none (omega arith)
+unserved_grid-rises round units need (suc most) h = elim (cases_lt need (suc most)) [
+  | inl near ↦ (let before = unserved_grid-rises round units need most (omega arith) in omega arith)
+  | inr far ↦ (let same : need ≡ suc most = omega arith in rw same (omega arith))
+]

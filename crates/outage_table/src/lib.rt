@@ -12,3 +12,6 @@ pub use error::AddError;
 pub use limits::LARGEST_TOTAL;
 pub use table::OutageTable;
 pub use units::PooledUnit;
+
+#[cfg(test)]
+mod tests;

@@ -1,8 +1,8 @@
-ghost use Rattle.std.specs.Prelude.{◌≡◌, ℕ, ◌+◌, ◌*◌, ◌<◌, ◌≤◌, [], ◌∷◌, ◌++◌, length, All, IfOk, OnOk, OnErr};
+ghost use Rattle.std.specs.Prelude.{◌≡◌, ℕ, ◌+◌, ◌-◌, ◌*◌, ◌<◌, ◌≤◌, [], ◌∷◌, ◌++◌, length, All, IfOk, OnOk, OnErr};
 ghost use Rattle.fixed_interval.specs.Enclosure.{one, Encloses};
 ghost use Rattle.fixed_interval.specs.Rounding.{floor_div, ceil_div};
 ghost use Rattle.system_model.specs.Rates.{AreRates};
-ghost use Rattle.outage_table.specs.States.{total_capacity, all_weight, outage_weight, lack_weight};
+ghost use Rattle.outage_table.specs.States.{total_capacity, all_weight, outage_weight, short_weight, lack_weight};
 ghost use Rattle.outage_table.specs.Grid.{grid, unserved_grid};
 ghost use Rattle.outage_table.specs.Refusal.{AnswersTotal};
 
@@ -109,6 +109,10 @@ impl OutageTable {
         ensures possible { 0 < all_weight self.now }
         ensures width { result.high ≤ result.low + 2 * length self.now }
 
+        // Less than a need is in service where more is out than can be spared.
+        ensures short { (need : ℕ) → x ≡ total_capacity self.now + 1 - need
+            → Encloses result (short_weight self.now 0 need) (all_weight self.now) }
+
         ensures certain { x ≡ 0 → (result.low ≡ one) × (result.high ≡ one) }
         ensures past { total_capacity self.now < x → (result.low ≡ 0) × (result.high ≡ 0) }
         ensures part { result.high ≤ one }
@@ -131,6 +135,10 @@ impl OutageTable {
         ensures encloses { Encloses result (lack_weight self.now 0 need) (all_weight self.now) }
         ensures possible { 0 < all_weight self.now }
         ensures width { result.high ≤ result.low + 2 * length self.now * need }
+
+        // Under a larger need no less is written as unserved.
+        ensures rises { (more : ℕ) → need ≤ more
+            → (result.low ≤ unserved_grid floor_div self.now more) × (result.high ≤ unserved_grid ceil_div self.now more) }
     {
         let total = (self.entries.len() - 1) as u32;
         let mut sum = Enclosure { low: 0, high: 0 };

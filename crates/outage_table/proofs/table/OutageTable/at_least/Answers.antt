@@ -1,8 +1,10 @@
-use Rattle.std.proofs.Common.{◌≡◌, ℕ, ◌≤◌, sym, ap, ◌∙◌}
+use Rattle.std.proofs.Common.{◌≡◌, ◌+◌, ◌-◌, ap, ◌∙◌, arith}
 use Rattle.fixed_interval.specs.Rounding.{floor_div, ceil_div}
 use Rattle.outage_table.specs.Grid.{grid}
+use Rattle.outage_table.specs.States.{total_capacity, outage_weight, short_weight}
+use Rattle.outage_table.proofs.LackLaws.{short_weight-outage}
 use Rattle.outage_table.proofs.StateLaws.{all_weight-pos}
-use Rattle.outage_table.proofs.GridLaws.{AreEndsOf, grid_ends, part-high}
+use Rattle.outage_table.proofs.GridLaws.{grid_ends, part-high}
 use Rattle.outage_table.proofs.table.OutageTable.at_least.Goals as goal
 
 pub returns-clause-encloses : goal.returns-clause-encloses
@@ -38,3 +40,14 @@ returns-clause-falls c y more = (
   rw c.entry.ensures.low ((grid_ends _ c.entry.ensures.rated).falls_low c.args.x y more),
   rw c.entry.ensures.high ((grid_ends _ c.entry.ensures.rated).falls_high c.args.x y more),
 )
+
+pub returns-clause-short : goal.returns-clause-short
+returns-clause-short c need spared =
+    let weight : short_weight c.args.self.now 0 need ≡ outage_weight c.args.self.now 0 c.args.x
+    = short_weight-outage c.args.self.now 0 need
+    ∙ ap (λ n. outage_weight c.args.self.now 0 n)
+    (let same : total_capacity c.args.self.now + 0 + 1 - need ≡ c.args.x = omega arith in same) in
+    record {
+      below = rw (c.entry.ensures.low, weight) ((grid_ends _ c.entry.ensures.rated).below c.args.x);
+      above = rw (c.entry.ensures.high, weight) ((grid_ends _ c.entry.ensures.rated).above c.args.x);
+    }
