@@ -4,6 +4,7 @@ pub mod Digits
 pub mod Worth
 pub mod Below
 pub mod Laws
+pub mod Texts
 pub mod Scans
 pub mod ScanLaws
 pub mod Caps

@@ -1,6 +1,7 @@
 -- The decimal text of a number, whole or with a fixed number of digits behind the point.
-use Rattle.std.specs.Prelude.{◌≡◌, ℕ, ◌-◌, ◌/◌, ◌%◌, ◌^◌, List, ◌∷◌, ◌++◌, length, replicate, decimal}
+use Rattle.std.specs.Prelude.{◌≡◌, ℕ, ◌-◌, ◌*◌, ◌/◌, ◌%◌, ◌^◌, List, ◌∷◌, ◌++◌, length, replicate, decimal}
 use Rattle.ra_base.specs.Causes.{IsFirstPart}
+use Rattle.decimal_text.specs.Numeral.{Numeral, Spells, behind_point, top, bottom, IsWorth}
 
 -- the digits, without leading zeros
 abbrev pub whole_text : ℕ → List ℕ
@@ -17,3 +18,11 @@ fixed_text value places = whole_text (value / 10 ^ places) ++ 46 ∷ padded_text
 -- now is before with the first bytes of the text at its end, perhaps none, perhaps all
 abbrev pub AppendsPart : List ℕ → List ℕ → List ℕ → Type 0
 AppendsPart before now text = (part : List ℕ) × IsFirstPart part text × (now ≡ before ++ part)
+
+-- the text spells a numeral that is worth the value
+abbrev pub IsNumeralOf : List ℕ → ℕ → Type 0
+IsNumeralOf text value = (n : Numeral) × Spells n text × IsWorth n value
+
+-- the text spells a numeral with so many digits behind the point that is worth value / 10 ^ places
+abbrev pub IsFraction : List ℕ → ℕ → ℕ → Type 0
+IsFraction text value places = (n : Numeral) × Spells n text × (length (behind_point n) ≡ places) × (value * bottom n ≡ 10 ^ places * top n)

@@ -1,6 +1,7 @@
 //! Decimal texts at the end of a text.
-ghost use Rattle.std.specs.Prelude.{◌≡◌, ◌^◌, ◌<◌, ◌≤◌, ◌++◌, OnOk, OnErr};
-ghost use Rattle.decimal_text.specs.DecimalText.{whole_text, padded_text, fixed_text, AppendsPart};
+ghost use Rattle.std.specs.Prelude.{◌≡◌, ◌^◌, ◌<◌, ◌≤◌, ◌++◌, OnOk, OnErr, Ok, ℕ};
+ghost use Rattle.decimal_text.specs.DecimalText.{whole_text, padded_text, fixed_text, AppendsPart, IsNumeralOf, IsFraction};
+ghost use Rattle.decimal_text.specs.Reading.{whole_of, billionths_of};
 
 use crate::powers::power_of_ten;
 use itoa::Buffer;
@@ -45,3 +46,12 @@ fn put_padded(out: &mut Text, value: u64, places: u8) -> Result<(), OutOfMemory>
     out.push(&ZEROS[..zeros])?;
     out.push(digits)
 }
+
+/// The law of the texts, which does nothing: what `put_whole` and `put_fixed` write is a numeral worth what
+/// was written, with as many digits behind the point as were asked for, and it is read again.
+pub fn texts_are_read_again()
+    ensures whole { (value : ℕ) → value < 2 ^ 128 → IsNumeralOf (whole_text value) value }
+    ensures fixed { (value places : ℕ) → value < 2 ^ 128 → 1 ≤ places → IsFraction (fixed_text value places) value places }
+    ensures whole_again { (value : ℕ) → value ≤ 10 ^ 18 → whole_of (whole_text value) ≡ Ok value }
+    ensures billionths_again { (value : ℕ) → value ≤ 10 ^ 18 → billionths_of (fixed_text value 9) ≡ Ok value }
+{}
