@@ -1,7 +1,11 @@
-pub mod PlainNumbers
+pub mod AnswerLemmas
 pub mod FieldLaws
-pub mod RowLaws
-pub mod TableLaws
-pub mod ReadingLaws
-pub mod TableSteps
+pub mod FolderLemmas
 pub mod PlainAnswers
+pub mod PlainNumbers
+pub mod ReadingLaws
+pub mod RowLaws
+pub mod StudyLemmas
+pub mod TableLaws
+pub mod TableSteps
+pub mod TextLemmas

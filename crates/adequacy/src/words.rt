@@ -19,7 +19,8 @@ pub struct StudyWords<'a> {
 
 /// The study that the words ask for, or `None` where they aren't of its form.
 pub fn read_study(words: &[String]) -> Option<StudyWords<'_>>
-    ensures { option_map (λ s. record { folder = s.folder.now; samples = s.samples; seed = s.seed }) result ≡ study_of (map string_bytes words.now) }
+    ensures study { option_map (λ s. record { folder = s.folder.now; samples = s.samples; seed = s.seed }) result ≡ study_of (map string_bytes words.now) }
+    ensures samples { IfSome result (λ s. s.samples ≤ 1000000) }
 {
     let [command, folder, first, samples, second, seed] = words else {
         return None;
