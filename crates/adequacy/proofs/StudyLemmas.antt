@@ -1,6 +1,5 @@
 -- The totals of a study that has come as far as some sample.
-use Rattle.std.proofs.Common.{◌≡◌, ℕ, zero, suc, ◌+◌, ◌<◌, List, [], ◌∷◌, ◌++◌, length, map, refl, sym, ap, ◌∙◌, subst, arith}
-use Rattle.std.specs.List.{range_with_len}
+use Rattle.std.proofs.Common.{◌≡◌, ℕ, ◌+◌, List, [], ◌∷◌, ◌++◌, length, refl, sym, ap, ◌∙◌, subst, arith}
 use Rattle.std.proofs.lemmas.List.FromFn.{length-map-range_with_len, map-range_with_len_more}
 use Rattle.system_model.specs.System.{SystemParts, zone_count}
 use Rattle.sample_run.specs.Results.{HourOutcome, Figures, figures_of}
@@ -17,10 +16,10 @@ pub record IsUnderWay (system : SystemParts) (seed samples : ℕ) (simulation : 
 pub IsUnderWay-start : (system : SystemParts) (seed : ℕ) (simulation : Simulation) (sheet : Sheet) → simulation ≡ record { system = system; seed = seed } → sheet ≡ totals_of (zone_count system) [] → IsUnderWay system seed 0 simulation sheet
 unfolding runs_of
 IsUnderWay-start system seed simulation sheet is none = record {
-    same_system = ap (λ (s : Simulation). s.system) is;
-    same_seed = ap (λ (s : Simulation). s.seed) is;
-    added = none;
-  }
+  same_system = ap (λ (s : Simulation). s.system) is;
+  same_seed = ap (λ (s : Simulation). s.seed) is;
+  added = none;
+}
 
 length-runs_of : (system : SystemParts) (seed samples : ℕ) → length (runs_of system seed samples) ≡ samples
 unfolding runs_of
@@ -59,10 +58,10 @@ IsUnderWay-more system seed samples simulation simulation' sheet sheet' figures 
     let run = run_of system seed samples in
     let runs = runs_of system seed samples in
     record {
-        same_system = ap (λ (s : Simulation). s.system) same ∙ way.same_system;
-        same_seed = ap (λ (s : Simulation). s.seed) same ∙ way.same_seed;
-        added = subst (λ (z : ℕ). sheet' ≡ totals_of z (runs_of system seed (samples + 1))) zones
-            (rw (runs_of-more system seed samples) (adds runs run
-                (way.added ∙ ap (λ (z : ℕ). totals_of z runs) (sym zones))
-                (is ∙ rw (way.same_system, way.same_seed) (ap (λ (z : ℕ). figures_of z run) (sym (zones ∙ one))))));
+      same_system = ap (λ (s : Simulation). s.system) same ∙ way.same_system;
+      same_seed = ap (λ (s : Simulation). s.seed) same ∙ way.same_seed;
+      added = subst (λ (z : ℕ). sheet' ≡ totals_of z (runs_of system seed (samples + 1))) zones
+          (rw (runs_of-more system seed samples) (adds runs run
+          (way.added ∙ ap (λ (z : ℕ). totals_of z runs) (sym zones))
+          (is ∙ rw (way.same_system, way.same_seed) (ap (λ (z : ℕ). figures_of z run) (sym (zones ∙ one))))));
     }

@@ -77,16 +77,16 @@ pub IsJoined-none : (names : List (List ℕ)) (mask : ℕ) (before : List ℕ) �
 IsJoined-none names mask before =
     let none = zones_in-none names mask in
     record {
-        text = sym (append-nil before) ∙ ap (λ (t : List ℕ). before ++ t) (sym none.1);
-        none = ap (λ (zones : List ℕ). is_none zones) (sym none.0);
+      text = sym (append-nil before) ∙ ap (λ (t : List ℕ). before ++ t) (sym none.1);
+      none = ap (λ (zones : List ℕ). is_none zones) (sym none.0);
     }
 
 pub IsJoined-yes : (names : List (List ℕ)) (mask zone : ℕ) (before now now' name : List ℕ) (first : Bool) → IsJoined names mask zone before now first → is_inside mask zone ≡ true → name ≡ slice_index_or names zone [] → now' ≡ now ++ ((if first then [] else 43 ∷ []) ++ name_text name) → IsJoined names mask (zone + 1) before now' false
 IsJoined-yes names mask zone before now now' name first joined held is more =
     let grown = zones_in-yes mask zone held in
     record {
-        text = rw (more, joined.text, joined.none, is, grown, zones_text-more names (zones_in mask zone) zone) (append_assoc before _ _);
-        none = rw grown (not_empty (zones_in mask zone) zone);
+      text = rw (more, joined.text, joined.none, is, grown, zones_text-more names (zones_in mask zone) zone) (append_assoc before _ _);
+      none = rw grown (not_empty (zones_in mask zone) zone);
     }
   where
     not_empty : (zones : List ℕ) (zone : ℕ) → false ≡ is_none (zones ++ zone ∷ [])

@@ -1,11 +1,11 @@
 -- What a run of the program writes, and how it ends.
-use Rattle.std.specs.Prelude.{◌≡◌, ℕ, List, [], ◌∷◌, ◌++◌, codes, Bool, true, false, Option, Some, None, Result, Ok, Err, IsSomeAnd, ◌⊎◌, ⊤}
+use Rattle.std.specs.Prelude.{◌≡◌, ℕ, List, [], ◌∷◌, ◌++◌, codes, Bool, true, false, Option, Result, Ok, Err, IsSomeAnd, ◌⊎◌, ⊤}
 use Rattle.ra_base.specs.Causes.{Counts, Gained, GainedPart}
 use Rattle.ra_base.specs.Outside.{Tables}
 use Rattle.ra_base.specs.declared.table.TableName.{TableName}
 use Rattle.ra_base.specs.declared.table.TableName.TheVariants.{Zones, Units, Interfaces, Lines, Storages, Load, Variable}
 use Rattle.ra_base.specs.declared.status.Status.{Status}
-use Rattle.ra_base.specs.declared.status.Status.TheVariants.{Done, Words, Table, ReadFault, WriteFault, OutOfMemory, Cancelled, RecorderRefused}
+use Rattle.ra_base.specs.declared.status.Status.TheVariants.{Done, Words, Table, ReadFault, WriteFault, OutOfMemory}
 use Rattle.system_model.specs.System.{SystemParts}
 use Rattle.adequacy.specs.declared.failure.TableRefusal.{TableRefusal}
 use Rattle.adequacy.specs.declared.failure.TableRefusal.TheVariants.{Missing, TooLong, NotPlain}

@@ -38,11 +38,7 @@ pub(crate) struct PlainTables {
     load: Text,
 }
 
-fn read_tables<S: Shelf>(
-    alloc: Global,
-    folder: &str,
-    shelf: &mut S,
-) -> Result<PlainTables, Failure>
+fn read_tables<S: Shelf>(alloc: Global, folder: &str, shelf: &mut S) -> Result<PlainTables, Failure>
     ensures contents { S.contents shelf.new ≡ S.contents shelf.old }
     ensures tables { IfOk result (λ t. AreTables (S.contents shelf.old) folder.now t.zones t.units t.load) }
     ensures reason { IfErr result (IsFolderReason (S.contents shelf.old) folder.now (S.misses shelf.old) (S.misses shelf.new) (S.overlong shelf.old) (S.overlong shelf.new)) }

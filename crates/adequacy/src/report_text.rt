@@ -63,12 +63,7 @@ fn put_zones(out: &mut Text, system: &System, totals: &Totals) -> Result<(), Out
 }
 
 #[tactic(auto, unfolding(crate::specs::TotalsText::zone_line))]
-fn put_zone(
-    out: &mut Text,
-    system: &System,
-    totals: &Totals,
-    zone: u8,
-) -> Result<(), OutOfMemory>
+fn put_zone(out: &mut Text, system: &System, totals: &Totals, zone: u8) -> Result<(), OutOfMemory>
     requires zone { zone < zone_count system.now }
     requires zones { length totals.now.zones ≡ zone_count system.now }
     requires some { 0 < totals.now.samples }

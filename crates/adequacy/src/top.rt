@@ -47,7 +47,7 @@ pub fn adequacy<S: Shelf, O: Sink, E: Sink>(
     ensures failure { result ≢ Status.Done → (failure : Failure) × (result ≡ status_of failure)
         × ErrGains (E.held err.old) (E.held err.new) (E.faults err.old) (E.faults err.new) (error_line failure)
         × IsReason (S.contents shelf.old) (study_of (map string_bytes words.now))
-            (S.misses shelf.old) (S.misses shelf.new) (S.overlong shelf.old) (S.overlong shelf.new) failure }
+        (S.misses shelf.old) (S.misses shelf.new) (S.overlong shelf.old) (S.overlong shelf.new) failure }
 
     // Where the words ask for a study of a folder whose tables spell a system, and no fault was counted,
     // the answer is that study's, unless memory wasn't found.

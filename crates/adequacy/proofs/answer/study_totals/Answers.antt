@@ -1,4 +1,4 @@
-use Rattle.std.proofs.Common.{◌≡◌, arith, rules, sym, ◌∙◌, ap}
+use Rattle.std.proofs.Common.{arith, sym, ◌∙◌}
 use Rattle.adequacy.proofs.StudyLemmas.{IsUnderWay-start, IsUnderWay-zones, IsUnderWay-samples, IsUnderWay-more}
 use Rattle.adequacy.proofs.answer.study_totals.Goals as goal
 
