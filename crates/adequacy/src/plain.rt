@@ -69,3 +69,6 @@ pub fn read_plain(
 {
     read_tables(alloc, zones.bytes(), units.bytes(), load.bytes())
 }
+
+#[cfg(test)]
+mod tests;
