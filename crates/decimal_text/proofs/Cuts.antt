@@ -58,10 +58,10 @@ drop_cut k w b before after p q = elim (cases_lt (length w) k) [
 
 -- ---- the number
 
-pub scaled_parts : (shift : ℕ) (n : Numeral) (w b : List ℕ) (up low before after noughts first second : ℕ) → AreParts n w b up low → IsKept ((length w + shift + up) - low) w b before after noughts
-    → first ≡ capped (digits_value_after 10 0 (take before w)) → second ≡ capped (digits_value_after 10 first (take after b)) → capped (second * 10 ^ noughts) ≡ capped (scaled shift n)
+pub scaled_parts : (shift : ℕ) (n : Numeral) (w b : List ℕ) (up low before after after_zeros first second : ℕ) → AreParts n w b up low → IsKept ((length w + shift + up) - low) w b before after after_zeros
+    → first ≡ capped (digits_value_after 10 0 (take before w)) → second ≡ capped (digits_value_after 10 first (take after b)) → capped (second * 10 ^ after_zeros) ≡ capped (scaled shift n)
 unfolding scaled
-scaled_parts shift n w b up low before after noughts first second a k f s =
+scaled_parts shift n w b up low before after after_zeros first second a k f s =
     let same : kept shift n ≡ (length w + shift + up) - low = rw (a.whole-is, a.up-is, a.low-is) refl in
     let digits : digits_of n ≡ w ++ b = rw (a.whole-is, a.behind-is) refl in
     let cut : take (kept shift n) (digits_of n) ≡ take before w ++ take after b =
@@ -69,9 +69,9 @@ scaled_parts shift n w b up low before after noughts first second a k f s =
     let number : second ≡ capped (digits_value 10 (take (kept shift n) (digits_of n))) =
     s ∙ ap (λ (x : ℕ). capped (digits_value_after 10 x (take after b))) f ∙ capped_after (digits_value 10 (take before w)) (take after b)
     ∙ ap (λ (x : ℕ). capped x) (sym (after_append 0 (take before w) (take after b))) ∙ ap (λ (t : List ℕ). capped (digits_value 10 t)) (sym cut) in
-    let noughts-are : noughts ≡ kept shift n - length (digits_of n) = k.zeros-is ∙ ap (λ (x : ℕ). x - (length w + length b)) (sym same) ∙ ap (λ (x : ℕ). kept shift n - x) (sym (length-append w b) ∙ ap (λ (t : List ℕ). length t) (sym digits)) in
-    ap (λ (x : ℕ). capped (x * 10 ^ noughts)) number ∙ capped_zeros (digits_value 10 (take (kept shift n) (digits_of n))) noughts
-    ∙ ap (λ (x : ℕ). capped (digits_value 10 (take (kept shift n) (digits_of n)) * 10 ^ x)) noughts-are
+    let after_zeros-are : after_zeros ≡ kept shift n - length (digits_of n) = k.zeros-is ∙ ap (λ (x : ℕ). x - (length w + length b)) (sym same) ∙ ap (λ (x : ℕ). kept shift n - x) (sym (length-append w b) ∙ ap (λ (t : List ℕ). length t) (sym digits)) in
+    ap (λ (x : ℕ). capped (x * 10 ^ after_zeros)) number ∙ capped_zeros (digits_value 10 (take (kept shift n) (digits_of n))) after_zeros
+    ∙ ap (λ (x : ℕ). capped (digits_value 10 (take (kept shift n) (digits_of n)) * 10 ^ x)) after_zeros-are
 
 -- ---- the first digit below one
 
@@ -91,10 +91,10 @@ first_append (x ∷ xs) ys =
     ap (λ (o : Option ℕ). cond (eqb x 48) (option_map (λ k. suc k) o) (Some 0)) (first_append xs ys)
     ∙ one_shift (eqb x 48) (first_not_zero xs) (first_not_zero ys) (length xs)
 
-first_cut : (n : Numeral) (w b : List ℕ) (up low before after noughts : ℕ) → AreParts n w b up low → IsKept ((length w + 0 + up) - low) w b before after noughts
+first_cut : (n : Numeral) (w b : List ℕ) (up low before after after_zeros : ℕ) → AreParts n w b up low → IsKept ((length w + 0 + up) - low) w b before after after_zeros
     → first_below_one n ≡ option_map (λ k. place_of n (kept 0 n + k)) (option_or (first_not_zero (drop before w)) (option_map (λ k. length (drop before w) + k) (first_not_zero (drop after b))))
 unfolding first_below_one
-first_cut n w b up low before after noughts a k =
+first_cut n w b up low before after after_zeros a k =
     let same : kept 0 n ≡ (length w + 0 + up) - low = rw (a.whole-is, a.up-is, a.low-is) refl in
     let digits : digits_of n ≡ w ++ b = rw (a.whole-is, a.behind-is) refl in
     let cut : drop (kept 0 n) (digits_of n) ≡ drop before w ++ drop after b =
@@ -111,21 +111,21 @@ place_after n i len e le = rw (le-ltb i (length n.whole) (omega arith)) refl
 within : (ds : List ℕ) (z : ℕ) → first_not_zero ds ≡ Some z → z < length ds
 within ds z e = let f : FirstNotZero ds (Some z) = subst (λ (o : Option ℕ). FirstNotZero ds o) e (first_not_zero_is ds) in f.0
 
-pub found_before : (n : Numeral) (w b : List ℕ) (up low before after noughts z : ℕ) → AreParts n w b up low → IsKept ((length w + 0 + up) - low) w b before after noughts
+pub found_before : (n : Numeral) (w b : List ℕ) (up low before after after_zeros z : ℕ) → AreParts n w b up low → IsKept ((length w + 0 + up) - low) w b before after after_zeros
     → first_not_zero (drop before w) ≡ Some z → Some (before + z) ≡ first_below_one n
-found_before n w b up low before after noughts z a k e =
+found_before n w b up low before after after_zeros z a k e =
     let lt = within (drop before w) z e in
     let len = length-drop before w in
     let p = k.before-is in
     let same : kept 0 n ≡ (length w + 0 + up) - low = rw (a.whole-is, a.up-is, a.low-is) refl in
     let i-is : before + z ≡ kept 0 n + z = omega arith in
-    sym (first_cut n w b up low before after noughts a k
+    sym (first_cut n w b up low before after after_zeros a k
     ∙ ap (λ (o : Option ℕ). option_map (λ k. place_of n (kept 0 n + k)) (option_or o (option_map (λ k. length (drop before w) + k) (first_not_zero (drop after b))))) e
     ∙ ap (λ (i : ℕ). let s : Option ℕ = Some i in s) (sym (i-is ∙ place_before n (kept 0 n + z) (length w) (ap (λ (t : List ℕ). length t) a.whole-is) (omega arith))))
 
-pub found_after : (n : Numeral) (w b : List ℕ) (up low before after noughts z : ℕ) → AreParts n w b up low → IsKept ((length w + 0 + up) - low) w b before after noughts
+pub found_after : (n : Numeral) (w b : List ℕ) (up low before after after_zeros z : ℕ) → AreParts n w b up low → IsKept ((length w + 0 + up) - low) w b before after after_zeros
     → first_not_zero (drop before w) ≡ None → first_not_zero (drop after b) ≡ Some z → Some (length w + 1 + after + z) ≡ first_below_one n
-found_after n w b up low before after noughts z a k none e =
+found_after n w b up low before after after_zeros z a k none e =
     let lt = within (drop after b) z e in
     let len = length-drop before w in
     let rest = length-drop after b in
@@ -133,15 +133,15 @@ found_after n w b up low before after noughts z a k none e =
     let q = k.after-is in
     let same : kept 0 n ≡ (length w + 0 + up) - low = rw (a.whole-is, a.up-is, a.low-is) refl in
     let i-is : length w + 1 + after + z ≡ kept 0 n + (length (drop before w) + z) + 1 = omega arith in
-    sym (first_cut n w b up low before after noughts a k
+    sym (first_cut n w b up low before after after_zeros a k
     ∙ ap (λ (o : Option ℕ). option_map (λ k. place_of n (kept 0 n + k)) (option_or o (option_map (λ k. length (drop before w) + k) (first_not_zero (drop after b))))) none
     ∙ ap (λ (o : Option ℕ). option_map (λ k. place_of n (kept 0 n + k)) (option_map (λ k. length (drop before w) + k) o)) e
     ∙ ap (λ (i : ℕ). let s : Option ℕ = Some i in s) (sym (i-is ∙ place_after n (kept 0 n + (length (drop before w) + z)) (length w) (ap (λ (t : List ℕ). length t) a.whole-is) (omega arith))))
 
-pub found_none : (n : Numeral) (w b : List ℕ) (up low before after noughts : ℕ) → AreParts n w b up low → IsKept ((length w + 0 + up) - low) w b before after noughts
+pub found_none : (n : Numeral) (w b : List ℕ) (up low before after after_zeros : ℕ) → AreParts n w b up low → IsKept ((length w + 0 + up) - low) w b before after after_zeros
     → first_not_zero (drop before w) ≡ None → first_not_zero (drop after b) ≡ None → None ≡ first_below_one n
-found_none n w b up low before after noughts a k none last =
-    sym (first_cut n w b up low before after noughts a k
+found_none n w b up low before after after_zeros a k none last =
+    sym (first_cut n w b up low before after after_zeros a k
     ∙ ap (λ (o : Option ℕ). option_map (λ k. place_of n (kept 0 n + k)) (option_or o (option_map (λ k. length (drop before w) + k) (first_not_zero (drop after b))))) none
     ∙ ap (λ (o : Option ℕ). option_map (λ k. place_of n (kept 0 n + k)) (option_map (λ k. length (drop before w) + k) o)) last)
 

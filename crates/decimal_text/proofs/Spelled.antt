@@ -144,7 +144,7 @@ whole_grows w b m h e = picks (is_digit b 10) _ _ m (Grows (numeral w None None)
     (λ t s. picks (eqb b 46) _ _ m (Grows (numeral w None None) b) s
     (λ t s. let p : b ≡ 46 = eqb-true _ _ t in holds_at (numeral w (Some []) None) m (Grows (numeral w None None) b) (record {
       begun = record { whole = h.whole; behind = tt; exponent = tt };
-      bytes = rw p (simp (append_assoc, append-nil));
+      bytes = rw p (simp append-nil);
     }) s)
     (λ t s. begun_grows w None b m h s))
 
@@ -240,7 +240,7 @@ read_is_spelled [] n m h e = ends_spelled n m (is_complete n.whole n.fraction n.
 read_is_spelled (b ∷ bs) n m h e = goes_spelled b bs n m (more n.exponent n.whole n.fraction b) refl h e (λ k g r. read_is_spelled bs k m g r)
 
 front_is_read : (w : List ℕ) (f : Option (List ℕ)) (rest : List ℕ) → IsBegun (numeral w f None) → read_on nothing (spelling (numeral w f None) ++ rest) ≡ read_on (numeral w f None) rest
-front_is_read w None rest h = ap (read_on nothing) (simp (append_assoc, append-nil)) ∙ whole_is_read w rest h.whole
+front_is_read w None rest h = ap (read_on nothing) (simp append-nil) ∙ whole_is_read w rest h.whole
 front_is_read w (Some f) rest h =
     ap (read_on nothing) (simp (append_assoc, append-nil)) ∙ whole_is_read w (46 ∷ f ++ rest) h.whole ∙ behind_is_read w f rest h.behind
 
