@@ -6,7 +6,7 @@ use Rattle.decimal_text.specs.declared.fault.NumberFault.TheVariants.{Empty, Not
 use Rattle.decimal_text.specs.Numeral.{Numeral, IsWorth, IsWhole, IsBillionths}
 use Rattle.decimal_text.specs.Faults.{HasLength, IsFirstBelowOne, IsNoNumber, IsNumber, IsWholeAnswer, IsBillionthsAnswer}
 use Rattle.decimal_text.specs.Reading.{◌>>=◌, nothing, read_on, or_no_number, numeral_of, scaled, first_below_one, up_to_limit, if_whole, whole_of, billionths_of}
-use Rattle.decimal_text.specs.Scanning.{AreParts, ReadsParts, ReadsNumeral, capped}
+use Rattle.decimal_text.specs.Scanning.{AreParts, ReadsAs, NumeralAs, capped}
 use Rattle.decimal_text.proofs.Spelled.{nothing_begun, read_is_spelled, spelled_is_read, err_is_not}
 use Rattle.decimal_text.proofs.Fronts.{fault_is_longest, one_longest}
 use Rattle.decimal_text.proofs.Below.{BelowOne, below_one_is, billionths_are, one_billionths, one_worth, one_first}
@@ -174,13 +174,13 @@ capped_limit v = elim (cases_lt (10 ^ 18) v) [
   | inr le ↦ let same : capped v ≡ v = omega arith in ap up_to_limit same
 ]
 
-parts_read : (len : ℕ) (r : Result Numeral (List ℕ)) (w b : List ℕ) (up low : ℕ) → ReadsParts r w b up low → ReadsNumeral (or_no_number len r) w b up low
+parts_read : (len : ℕ) (r : Result Numeral (List ℕ)) (w b : List ℕ) (up low : ℕ) → ReadsAs r w b up low → NumeralAs (or_no_number len r) w b up low
 parts_read len (Ok n) w b up low h = h
 parts_read len (Err rest) w b up low h = h
 
-pub numeral_parts : (field w b : List ℕ) (up low : ℕ) → HasLength field → ReadsParts (read_on nothing field) w b up low → ReadsNumeral (numeral_of field) w b up low
-numeral_parts field w b up low len h = subst (λ (r : Result Numeral NumberFault). ReadsNumeral r w b up low) (sym (short_read field len)) (parts_read (length field) (read_on nothing field) w b up low h)
+pub numeral_parts : (field w b : List ℕ) (up low : ℕ) → HasLength field → ReadsAs (read_on nothing field) w b up low → NumeralAs (numeral_of field) w b up low
+numeral_parts field w b up low len h = subst (λ (r : Result Numeral NumberFault). NumeralAs r w b up low) (sym (short_read field len)) (parts_read (length field) (read_on nothing field) w b up low h)
 
-pub numeral_from : (r : Result Numeral NumberFault) (w b : List ℕ) (up low : ℕ) → ReadsNumeral r w b up low → (n : Numeral) × (r ≡ Ok n) × AreParts n w b up low
+pub numeral_from : (r : Result Numeral NumberFault) (w b : List ℕ) (up low : ℕ) → NumeralAs r w b up low → (n : Numeral) × (r ≡ Ok n) × AreParts n w b up low
 numeral_from (Ok n) w b up low h = (n, refl, h)
 numeral_from (Err fault) w b up low h = absurd h

@@ -6,7 +6,7 @@ use Rattle.std.specs.Option.{option_map}
 use Rattle.std.proofs.lemmas.Bool.{le-ltb, lt-ltb, ne_eqb, eqb-true, eqb-false, and_left, and_right, or_from}
 use Rattle.decimal_text.specs.Numeral.{Sign, Unsigned, Plus, Minus, Numeral, sign_bytes, raised_by, lowered_by, raised, lowered}
 use Rattle.decimal_text.specs.Reading.{numeral, exponent, has_digit, more_exponent, more, read_on, nothing}
-use Rattle.decimal_text.specs.Scanning.{NoDigitFirst, OtherFirst, SplitsDigits, SplitsPoint, SplitsSign, ReadsParts}
+use Rattle.decimal_text.specs.Scanning.{NoDigitFirst, OtherFirst, SplitsDigits, SplitsPoint, SplitsSign, ReadsAs}
 use Rattle.decimal_text.proofs.Spelled.{whole_is_read, behind_is_read, exponent_is_read, stops, completes, lacks}
 
 -- the digits before and behind a point are read
@@ -50,11 +50,11 @@ some_digit : (whole behind : List ℕ) (f : Option (List ℕ)) → behind ≡ un
 some_digit whole behind f b h = lt-ltb 0 (length whole + length (unwrap_or f [])) (subst (λ (t : List ℕ). 0 < length whole + length t) b h)
 
 pub digits_alone : (field whole after behind rest : List ℕ) (f : Option (List ℕ)) → SplitsDigits field whole after → SplitsPoint after f rest → behind ≡ unwrap_or f [] → 0 < length whole + length behind → rest ≡ []
-    → ReadsParts (read_on nothing field) whole behind 0 0
+    → ReadsAs (read_on nothing field) whole behind 0 0
 digits_alone field whole after behind rest f d p b h e =
     let read : read_on nothing field ≡ Ok (numeral whole f None) =
     front_read field whole after rest f d p ∙ ap (read_on (numeral whole f None)) e ∙ completes (numeral whole f None) (some_digit whole behind f b h) in
-    subst (λ (r : Result Numeral (List ℕ)). ReadsParts r whole behind 0 0) (sym read) (record { whole-is = refl; behind-is = b; up-is = refl; low-is = refl })
+    subst (λ (r : Result Numeral (List ℕ)). ReadsAs r whole behind 0 0) (sym read) (record { whole-is = refl; behind-is = b; up-is = refl; low-is = refl })
 
 -- the sign and the digits of an exponent are read
 sign_parts : (after_letter after_sign : List ℕ) (s : Sign) → SplitsSign after_letter s after_sign → after_letter ≡ sign_bytes s ++ after_sign
@@ -102,13 +102,13 @@ pub whole_exponent : (field whole after behind after_letter after_sign digits un
     → SplitsDigits field whole after → SplitsPoint after f (letter ∷ after_letter) → behind ≡ unwrap_or f [] → 0 < length whole + length behind → (letter ≡ 101) ⊎ (letter ≡ 69)
     → SplitsSign after_letter s after_sign → SplitsDigits after_sign digits unread → 0 < length digits → unread ≡ []
     → up ≡ raised (Some (exponent letter s digits)) → low ≡ lowered (Some (exponent letter s digits))
-    → ReadsParts (read_on nothing field) whole behind up low
+    → ReadsAs (read_on nothing field) whole behind up low
 whole_exponent field whole after behind after_letter after_sign digits unread letter f s up low d p b h l sp ds some e up-is low-is =
     let read : read_on nothing field ≡ Ok (numeral whole f (Some (exponent letter s digits))) =
     exponent_read field whole after behind after_letter after_sign digits unread letter f s d p b h l sp ds
     ∙ ap (read_on (numeral whole f (Some (exponent letter s digits)))) e
     ∙ completes (numeral whole f (Some (exponent letter s digits))) (lt-ltb 0 (length digits) some) in
-    subst (λ (r : Result Numeral (List ℕ)). ReadsParts r whole behind up low) (sym read) (record { whole-is = refl; behind-is = b; up-is = up-is; low-is = low-is })
+    subst (λ (r : Result Numeral (List ℕ)). ReadsAs r whole behind up low) (sym read) (record { whole-is = refl; behind-is = b; up-is = up-is; low-is = low-is })
 
 -- an exponent either way
 pub minus_exponent : (s : Sign) (e n : ℕ) → s ≡ Minus → n ≡ e → (0 ≡ raised_by s e) × (n ≡ lowered_by s e)

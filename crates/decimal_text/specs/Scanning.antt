@@ -3,6 +3,7 @@ use Rattle.std.specs.Prelude.{◌≡◌, ℕ, ◌-◌, min, ◌+◌, ◌^◌, �
 use Rattle.std.specs.Char.{digit_value}
 use Rattle.std.specs.Str.Parse.{AllDigits}
 use Rattle.decimal_text.specs.declared.fault.NumberFault.{NumberFault}
+use Rattle.decimal_text.specs.declared.scanning.Parts.{Parts}
 use Rattle.decimal_text.specs.Numeral.{Sign, Unsigned, Plus, Minus, Numeral, behind_point, raised, lowered}
 
 -- the first byte is no digit
@@ -47,14 +48,34 @@ pub record Fit (whole behind : List ℕ) (up : ℕ) : Type 0 where
   pub up_small : up < 10 ^ 38
 
 -- the numeral that is read has these parts
-abbrev pub ReadsParts : Result Numeral (List ℕ) → List ℕ → List ℕ → ℕ → ℕ → Type 0
-ReadsParts (Err rest) whole behind up low = ⊥
-ReadsParts (Ok n) whole behind up low = AreParts n whole behind up low
+abbrev pub ReadsAs : Result Numeral (List ℕ) → List ℕ → List ℕ → ℕ → ℕ → Type 0
+ReadsAs (Err rest) whole behind up low = ⊥
+ReadsAs (Ok n) whole behind up low = AreParts n whole behind up low
 
 -- the same of a field's numeral
-abbrev pub ReadsNumeral : Result Numeral NumberFault → List ℕ → List ℕ → ℕ → ℕ → Type 0
-ReadsNumeral (Err fault) whole behind up low = ⊥
-ReadsNumeral (Ok n) whole behind up low = AreParts n whole behind up low
+abbrev pub NumeralAs : Result Numeral NumberFault → List ℕ → List ℕ → ℕ → ℕ → Type 0
+NumeralAs (Err fault) whole behind up low = ⊥
+NumeralAs (Ok n) whole behind up low = AreParts n whole behind up low
+
+-- ---- the same of the parts as the reader holds them
+
+abbrev pub HasParts : Numeral → Parts → Type 0
+HasParts n p = AreParts n p.whole.now p.behind.now p.raised p.lowered
+
+abbrev pub AreFit : Parts → Type 0
+AreFit p = Fit p.whole.now p.behind.now p.raised
+
+abbrev pub ReadsParts : Result Numeral (List ℕ) → Parts → Type 0
+ReadsParts read p = ReadsAs read p.whole.now p.behind.now p.raised p.lowered
+
+abbrev pub ReadsNumeral : Result Numeral NumberFault → Parts → Type 0
+ReadsNumeral read p = NumeralAs read p.whole.now p.behind.now p.raised p.lowered
+
+-- how many digits weigh one or more, of the parts by ten to the shift
+abbrev pub kept_of : Parts → ℕ → ℕ
+kept_of p shift = (length p.whole.now + shift + p.raised) - p.lowered
+
+-- ---- numbers that are capped
 
 -- the largest number that is answered and one more, which stands for each number above it
 abbrev pub capped : ℕ → ℕ

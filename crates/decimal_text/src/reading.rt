@@ -2,7 +2,7 @@
 ghost use Rattle.std.specs.Prelude.{◌≡◌, ℕ, IfOk, IfErr, Result, Err};
 ghost use Rattle.decimal_text.specs.Faults.{IsWholeAnswer, IsBillionthsAnswer};
 ghost use Rattle.decimal_text.specs.Reading.{numeral_of, up_to_limit, whole_of, billionths_of};
-ghost use Rattle.decimal_text.specs.Scanning.{Fit, ReadsNumeral, capped};
+ghost use Rattle.decimal_text.specs.Scanning.{AreFit, ReadsNumeral};
 ghost use Rattle.decimal_text.specs.declared.fault.NumberFault.{NumberFault};
 
 use crate::NumberFault;
@@ -14,8 +14,8 @@ const MOST_BYTES: usize = 40;
 
 // The parts of the numeral that the field spells.
 fn parts_of(field: &[u8]) -> Result<Parts<'_>, NumberFault>
-    ensures ok { IfOk result (λ p. ReadsNumeral (numeral_of field.now) p.whole.now p.behind.now p.raised p.lowered) }
-    ensures fit { IfOk result (λ p. Fit p.whole.now p.behind.now p.raised) }
+    ensures ok { IfOk result (ReadsNumeral (numeral_of field.now)) }
+    ensures fit { IfOk result AreFit }
     ensures err { IfErr result (λ e. numeral_of field.now ≡ Err e) }
 {
     if field.is_empty() {

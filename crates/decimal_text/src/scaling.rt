@@ -1,9 +1,9 @@
 //! What the parts of a numeral are worth, and the first digit below one.
-ghost use Rattle.std.specs.Prelude.{◌≡◌, ◌+◌, ◌-◌, ◌*◌, ◌^◌, ◌<◌, ◌≤◌, length, Some, None, IfSome};
+ghost use Rattle.std.specs.Prelude.{◌≡◌, ◌+◌, ◌*◌, ◌^◌, ◌<◌, ◌≤◌, length, IfSome};
 ghost use Rattle.std.specs.Str.Parse.{AllDigits, digits_value_after};
 ghost use Rattle.decimal_text.specs.Numeral.{Numeral};
 ghost use Rattle.decimal_text.specs.Reading.{scaled, first_not_zero, first_below_one};
-ghost use Rattle.decimal_text.specs.Scanning.{AreParts, Fit, IsKept, capped};
+ghost use Rattle.decimal_text.specs.Scanning.{HasParts, AreFit, IsKept, kept_of, capped};
 
 use crate::powers::power_of_ten;
 use crate::scanning::Parts;
@@ -24,8 +24,9 @@ struct Kept {
 
 // The digits of the numeral by ten to the shift that weigh one or more.
 fn kept_digits(parts: &Parts<'_>, shift: u8) -> Kept
-    requires fit { Fit parts.now.whole.now parts.now.behind.now parts.now.raised }
-    ensures { IsKept ((length parts.now.whole.now + shift + parts.now.raised) - parts.now.lowered) parts.now.whole.now parts.now.behind.now result.before result.after result.zeros }
+    requires fit { AreFit parts.now }
+    ensures { let p = parts.now in
+        IsKept (kept_of p shift) p.whole.now p.behind.now result.before result.after result.zeros }
 {
     let whole = parts.whole.len() as u128;
     let behind = parts.behind.len() as u128;
@@ -67,8 +68,8 @@ fn with_zeros(number: u64, zeros: u128) -> u64
 
 /// The numeral by ten to the shift, rounded down, or one past the limit.
 pub fn scaled(parts: &Parts<'_>, shift: u8) -> u64
-    requires fit { Fit parts.now.whole.now parts.now.behind.now parts.now.raised }
-    ensures { (n : Numeral) → AreParts n parts.now.whole.now parts.now.behind.now parts.now.raised parts.now.lowered → result ≡ capped (scaled shift n) }
+    requires fit { AreFit parts.now }
+    ensures { (n : Numeral) → HasParts n parts.now → result ≡ capped (scaled shift n) }
 {
     let kept = kept_digits(parts, shift);
     let whole = with_digits(0, &parts.whole[..kept.before]);
@@ -91,8 +92,8 @@ fn first_not_zero(digits: &[u8]) -> Option<usize>
 
 /// The place of the first digit other than 0 whose weight is below one.
 pub fn first_below_one(parts: &Parts<'_>) -> Option<u32>
-    requires fit { Fit parts.now.whole.now parts.now.behind.now parts.now.raised }
-    ensures { (n : Numeral) → AreParts n parts.now.whole.now parts.now.behind.now parts.now.raised parts.now.lowered → result ≡ first_below_one n }
+    requires fit { AreFit parts.now }
+    ensures { (n : Numeral) → HasParts n parts.now → result ≡ first_below_one n }
 {
     let kept = kept_digits(parts, 0);
     if let Some(zeros) = first_not_zero(&parts.whole[kept.before..]) {

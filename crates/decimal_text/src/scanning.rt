@@ -1,9 +1,9 @@
 //! A field taken apart into the parts of a numeral.
-ghost use Rattle.std.specs.Prelude.{◌≡◌, ◌+◌, ◌^◌, ◌<◌, ◌≤◌, ◌++◌, ℕ, List, Option, Ok, Err, length, unwrap_or, IfOk, IfErr, IsTrue, ◌↔◌, ◌⊎◌, []};
+ghost use Rattle.std.specs.Prelude.{◌≡◌, ◌+◌, ◌^◌, ◌<◌, ◌≤◌, ℕ, List, Option, Err, length, unwrap_or, IfOk, IfErr, IsTrue, ◌↔◌, ◌⊎◌, []};
 ghost use Rattle.std.specs.Str.Parse.{AllDigits, digits_value};
-ghost use Rattle.decimal_text.specs.Numeral.{Sign, Minus, sign_bytes};
+ghost use Rattle.decimal_text.specs.Numeral.{Sign, Minus};
 ghost use Rattle.decimal_text.specs.Reading.{nothing, read_on};
-ghost use Rattle.decimal_text.specs.Scanning.{SplitsDigits, SplitsPoint, SplitsSign, ReadsParts, Fit};
+ghost use Rattle.decimal_text.specs.Scanning.{SplitsDigits, SplitsPoint, SplitsSign, ReadsParts, AreFit};
 
 /// The parts of a numeral that say what it is worth.
 #[derive(Clone, Copy)]
@@ -32,7 +32,8 @@ fn split_digits(bytes: &[u8]) -> (&[u8], &[u8])
 
 // The digits behind a point, where one stands in front, and what follows them.
 fn split_point(bytes: &[u8]) -> (&[u8], &[u8])
-    ensures { (f : Option (List ℕ)) × SplitsPoint bytes.now f result.1.now × (result.0.now ≡ unwrap_or f []) }
+    ensures { (f : Option (List ℕ)) × SplitsPoint bytes.now f result.1.now
+        × (result.0.now ≡ unwrap_or f []) }
 {
     match bytes.split_first() {
         Some((b'.', rest)) => split_digits(rest),
@@ -82,8 +83,8 @@ fn number_of(digits: &[u8]) -> u128
 /// The parts of the numeral that the field spells, or the bytes where it stops being one.
 pub fn scan(field: &[u8]) -> Result<Parts<'_>, &[u8]>
     requires { length field.now ≤ 40 }
-    ensures read { IfOk result (λ p. ReadsParts (read_on nothing field.now) p.whole.now p.behind.now p.raised p.lowered) }
-    ensures fit { IfOk result (λ p. Fit p.whole.now p.behind.now p.raised) }
+    ensures read { IfOk result (ReadsParts (read_on nothing field.now)) }
+    ensures fit { IfOk result AreFit }
     ensures err { IfErr result (λ rest. read_on nothing field.now ≡ Err rest.now) }
 {
     let (whole, after_whole) = split_digits(field);

@@ -51,7 +51,9 @@ fn put_padded(out: &mut Text, value: u64, places: u8) -> Result<(), OutOfMemory>
 /// was written, with as many digits behind the point as were asked for, and it is read again.
 pub fn texts_are_read_again()
     ensures whole { (value : ℕ) → value < 2 ^ 128 → IsNumeralOf (whole_text value) value }
-    ensures fixed { (value places : ℕ) → value < 2 ^ 128 → 1 ≤ places → IsFraction (fixed_text value places) value places }
+    ensures fixed { (value places : ℕ) → value < 2 ^ 128 → 1 ≤ places
+        → IsFraction (fixed_text value places) value places }
     ensures whole_again { (value : ℕ) → value ≤ 10 ^ 18 → whole_of (whole_text value) ≡ Ok value }
-    ensures billionths_again { (value : ℕ) → value ≤ 10 ^ 18 → billionths_of (fixed_text value 9) ≡ Ok value }
+    ensures billionths_again { (value : ℕ) → value ≤ 10 ^ 18
+        → billionths_of (fixed_text value 9) ≡ Ok value }
 {}
