@@ -154,3 +154,6 @@ fn name_of(table: TableName) -> &'static [u8]
         TableName::Variable => b"variable",
     }
 }
+
+#[cfg(test)]
+mod tests;
