@@ -1,10 +1,11 @@
 -- Counts and tests over the numbers from 0 on.
-use Rattle.std.proofs.Common.{◌≡◌, ℕ, zero, suc, ◌+◌, ◌<◌, ◌≤◌, Bool, true, false, cond, ◌||◌, List, [], ◌∷◌, ◌++◌, length, get_or, refl, sym, ap, ◌∙◌, arith, ⊎_elim}
+use Rattle.std.proofs.Common.{◌≡◌, ℕ, zero, suc, ◌+◌, ◌<◌, ◌≤◌, Bool, true, false, cond, ◌||◌, List, [], ◌∷◌, ◌++◌, length, get_or, take, drop, refl, ap, ◌∙◌, arith, ⊎_elim}
 use Rattle.std.specs.List.{sum_by, count_by, range_with_len, list_any}
 use Rattle.std.proofs.lemmas.List.Sums.{sum_by_push}
+use Rattle.std.proofs.lemmas.List.{take-append-le, take_all}
 use Rattle.std.proofs.lemmas.List.FromFn.{fill_by_all}
 use Rattle.std.proofs.lemmas.List.Folds.{fold-map}
-use Rattle.std.proofs.lemmas.Bool.{cases_eq, cases_lt}
+use Rattle.std.proofs.lemmas.Bool.{cases_eq}
 
 range_more : (a n : ℕ) → range_with_len a (suc n) ≡ range_with_len a n ++ (a + n) ∷ []
 range_more a zero = let e : a ≡ a + 0 = omega arith in ap (λ k. k ∷ []) e
@@ -90,3 +91,7 @@ pub sum_by-places : {X : Type 0} (f : X → ℕ) (xs : List X) (d : X) → sum_b
 sum_by-places f xs d =
     ap (λ r. sum_by f r) (fill_by_all (λ k. get_or xs k d) xs (length xs) d refl (λ k l. refl))
     ∙ fold-map (λ a x. a + f x) (λ k. get_or xs k d) 0 (range_with_len 0 (length xs))
+
+-- a list of the same length that is written over another
+pub written_over : {X : Type 0} (old new : List X) (n : ℕ) → length old ≡ n → length new ≡ n → take n (new ++ drop (length new) old) ≡ new
+written_over old new n a b = take-append-le n new (drop (length new) old) (omega arith) ∙ take_all n new (omega arith)

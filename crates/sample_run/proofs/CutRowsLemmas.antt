@@ -1,9 +1,8 @@
-use Rattle.std.proofs.Common.{◌≡◌, ℕ, zero, suc, ◌+◌, ◌-◌, ◌^◌, ◌<◌, ◌≤◌, Bool, true, false, cond, eqb, ltb, List, [], ◌∷◌, ◌++◌, length, get_or, take, drop, set, refl, sym, ap, ◌∙◌, inl, inr, arith, subst, ⊎_elim, ◌⊎◌}
-use Rattle.std.specs.List.{sum_by, insert, range_with_len, filter}
-use Rattle.std.specs.Prelude.{map}
-use Rattle.std.proofs.lemmas.List.Sums.{sum_by-cons, sum_by-insert, sum_by-set, sum_by-append, get_or-le-sum_by, sum_by_more, sum_by-take-le}
+use Rattle.std.proofs.Common.{◌≡◌, ℕ, zero, suc, ◌+◌, ◌<◌, ◌≤◌, true, false, cond, eqb, ltb, List, [], ◌∷◌, length, get_or, take, set, refl, sym, ap, ◌∙◌, arith, subst, ⊎_elim}
+use Rattle.std.specs.List.{insert, range_with_len}
+use Rattle.std.proofs.lemmas.List.Sums.{sum_by-cons, sum_by-insert, sum_by-set, get_or-le-sum_by, sum_by_more, sum_by-take-le}
 use Rattle.std.proofs.lemmas.List.{take_all, get_or_read}
-use Rattle.std.proofs.lemmas.Bool.{cases_Bool, eqb-true, eqb-false, eq-eqb, ne_eqb, cases_lt, cases_eq, lt-ltb, le-ltb, cond-true, cond-false}
+use Rattle.std.proofs.lemmas.Bool.{cases_Bool, eq-eqb, ne_eqb, cases_lt, cases_eq, lt-ltb, le-ltb, cond-true, cond-false}
 use Rattle.sample_run.specs.declared.cut_rows.CutRow.{CutRow}
 use Rattle.sample_run.specs.CutRows.{rows_of, hours_at, unserved_at, AreRows, no_row, AddsRows}
 
@@ -125,14 +124,6 @@ AreRows-at low end (row ∷ rows) zero are h = (are.0, are.1, are.2)
 AreRows-at low end (row ∷ rows) (suc i) are h =
     let rest = AreRows-at (row.mask + 1) end rows i are.3 (omega arith) in
     (omega (arith, rest.0, are.0), rest.1, rest.2)
-
--- rows added one by one: none yet, one more, all
-pub AddsRows-none : (rows more : List CutRow) → AddsRows rows [] rows
-AddsRows-none rows more = record {
-  hours = λ m. omega (arith, hours_at-none m);
-  unserved = λ m. omega (arith, unserved_at-none m);
-  ascending = λ low end are none. are;
-}
 
 hours_at-take_more : (rows : List CutRow) (i m : ℕ) → i < length rows → hours_at (take (i + 1) rows) m ≡ hours_at (take i rows) m + share (get_or rows i no_row).mask (get_or rows i no_row).hours m
 unfolding hours_at

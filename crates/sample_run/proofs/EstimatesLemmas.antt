@@ -1,8 +1,8 @@
-use Rattle.std.proofs.Common.{◌≡◌, ℕ, zero, suc, ◌+◌, ◌-◌, ◌*◌, ◌/◌, ◌%◌, ◌^◌, ◌<◌, ◌≤◌, Bool, true, false, cond, eqb, leb, Some, None, refl, sym, ap, ◌∙◌, arith, ⊎_elim}
-use Rattle.std.proofs.lemmas.Bool.{cases_Bool, cases_eq, cases_lt, leb-true, leb-false, le-leb, lt-leb, eq-eqb, ne_eqb, cond-true, cond-false}
-use Rattle.std.proofs.lemmas.Nat.{mul-le, mul-lt, le-div, div-add-mod'}
+use Rattle.std.proofs.Common.{◌≡◌, ℕ, zero, suc, ◌+◌, ◌-◌, ◌*◌, ◌/◌, ◌<◌, ◌≤◌, Bool, true, false, leb, Some, None, sym, ap, ◌∙◌, arith, ⊎_elim}
+use Rattle.std.proofs.lemmas.Bool.{cases_eq, cases_lt, le-leb, lt-leb, eq-eqb, ne_eqb, cond-true, cond-false}
+use Rattle.std.proofs.lemmas.Nat.{mul-le, le-div, div-add-mod'}
 use Rattle.sample_run.specs.declared.estimates.Sums.{Sums}
-use Rattle.sample_run.specs.Estimates.{AreSums, greatest_up_to, spread_of, weight_of, IsWithin, error_of, IsGreatestWithin}
+use Rattle.sample_run.specs.Estimates.{AreSums, greatest_up_to, spread_of, weight_of, error_of, IsGreatestWithin}
 
 -- squares are in the order of their roots
 root-le : (a b : ℕ) → a * a < (b + 1) * (b + 1) → a ≤ b

@@ -1,14 +1,14 @@
-use Rattle.std.proofs.Common.{◌≡◌, ℕ, zero, suc, ◌+◌, ◌-◌, ◌*◌, ◌/◌, ◌%◌, ◌^◌, ◌<◌, ◌≤◌, Bool, true, false, not, ◌&&◌, cond, eqb, ltb, List, [], ◌∷◌, ◌++◌, length, get_or, set, replicate, Option, Some, None, refl, sym, ap, ◌∙◌, arith, subst, ⊎_elim, inl, inr, ◌⊎◌}
-use Rattle.std.specs.Prelude.{map, sum, sum_by, count_by}
+use Rattle.std.proofs.Common.{◌≡◌, ℕ, zero, suc, ◌+◌, ◌-◌, ◌*◌, ◌/◌, ◌%◌, ◌^◌, ◌<◌, ◌≤◌, Bool, true, false, not, ◌&&◌, cond, eqb, List, [], ◌∷◌, ◌++◌, length, get_or, set, replicate, Option, Some, None, refl, sym, ap, ◌∙◌, arith, subst, ⊎_elim}
+use Rattle.std.specs.Prelude.{map, sum}
 use Rattle.std.specs.List.{range_with_len}
 use Rattle.std.proofs.lemmas.List.{get_or_append_left, get_or_past, length-append, length-replicate, length-set}
 use Rattle.std.proofs.Math.Seq.{get_or-append_seam}
 use Rattle.std.proofs.lemmas.List.Sums.{sum_by_push, sum_by-cons}
-use Rattle.std.proofs.lemmas.Bool.{cases_Bool, cases_eq, cases_lt, eq-eqb, ne_eqb, lt-ltb, le-ltb, cond-true, cond-false}
+use Rattle.std.proofs.lemmas.Bool.{cases_Bool, cases_eq, cases_lt, eq-eqb, ne_eqb, lt-ltb, cond-true, cond-false}
 use Rattle.sample_run.specs.declared.cut_rows.CutRow.{CutRow}
-use Rattle.sample_run.specs.CutRows.{rows_of, hours_at, unserved_at, AreRows, AddsRows, masks}
+use Rattle.sample_run.specs.CutRows.{rows_of, AreRows, AddsRows, masks}
 use Rattle.sample_run.proofs.CutRowsLemmas.{rows_are, hours_at-none, unserved_at-none, hours_at-one, unserved_at-one, AreRows-rows_of, hours_at-rows_of, unserved_at-rows_of}
-use Rattle.sample_run.specs.Results.{HourOutcome, no_outcome, one_zone_outcome, is_short, is_short_at, is_short_day, is_short_before, short_hours, short_days, short_events, unserved_energy, zone_energy, cut_hours, cut_energy, Figures, figures_of, last_short_below, Tally, tally_of, is_same_day, is_next_hour, IsInRange}
+use Rattle.sample_run.specs.Results.{HourOutcome, no_outcome, one_zone_outcome, is_short, is_short_at, is_short_day, is_short_before, short_hours, short_days, short_events, unserved_energy, zone_energy, cut_hours, cut_energy, figures_of, last_short_below, Tally, tally_of, is_same_day, is_next_hour, IsInRange}
 use Rattle.sample_run.proofs.Counting.{count_to, count_more, count_same, count_changed, any_same, any_none, any_at}
 
 -- ---- single hours, before and after one more
@@ -239,16 +239,12 @@ pub tally-none : (room zones : ℕ) → make room 0 None 0 0 0 0 (replicate zone
 unfolding tally_of figures_of last_short_below short_hours short_days short_events unserved_energy
 tally-none room zones = same_tally (make room 0 None 0 0 0 0 (replicate zones 0) []) (tally_of room zones []) refl refl refl refl refl refl refl (sym (energies-none 0 zones)) (cuts-none zones)
 
-quiet : HourOutcome
-quiet = one_zone_outcome 0
-
 -- an hour that doesn't fall short
 pub tally-quiet : (room : ℕ) (run : List HourOutcome) (t : Tally) → t ≡ tally_of room 1 run → record t { counted = t.counted + 1 } ≡ tally_of room 1 (run ++ one_zone_outcome 0 ∷ [])
 unfolding tally_of figures_of
 tally-quiet room run t e =
     let o = one_zone_outcome 0 in
     let old = tally_of room 1 run in
-    let none : cut_hours run 0 ≡ cut_hours run 0 = refl in
     let other : (m : ℕ) → 1 ≤ m → cond {A = ℕ} (eqb 0 m) 1 0 ≡ 0 = λ m g. cond-false _ _ _ (ne_eqb 0 m (λ x. omega arith)) in
     let none_there : (m : ℕ) → 1 ≤ m → cond {A = ℕ} (eqb 0 m) (sum (0 ∷ [])) 0 ≡ 0 = λ m g. cond-false _ _ _ (ne_eqb 0 m (λ x. omega arith)) in
     subst (λ (x : Tally). record x { counted = x.counted + 1 } ≡ tally_of room 1 (run ++ o ∷ [])) (sym e)
@@ -286,10 +282,10 @@ tally-short room run t u rows some added e =
     let cut_is : o.cut ≡ 1 = cond-true _ _ _ (lt-ltb 0 u some) in
     let day : is_short_day run (n / 24) ≡ is_same_day last n = same_day-is run n last (omega arith) (last-is run n) in
     let next : is_short_before run n ≡ is_next_hour last n = next_hour-is run n last (last-is run n) in
-    let started : cond {A = ℕ} (is_short o && not (is_short_before run n)) 1 0 ≡ cond (not (is_next_hour last n)) 1 0 = ap (λ b. cond (b && not (is_short_before run n)) 1 0) falls ∙ ap (λ b. cond (not b) 1 0) next in
-    let new_day : cond {A = ℕ} (is_short_day run (n / 24)) 0 1 ≡ cond (not (is_same_day last n)) 1 0 = ap (λ b. cond b 0 1) day ∙ sym (not-flips (is_same_day last n)) in
+    let started : cond {A = ℕ} (is_short o && not (is_short_before run n)) 1 0 ≡ cond (not (is_next_hour last n)) 1 0 = ◌∙◌ {b = cond (not (is_short_before run n)) 1 0} (ap (λ b. cond (b && not (is_short_before run n)) 1 0) falls) (ap (λ b. cond (not b) 1 0) next) in
+    let new_day : cond {A = ℕ} (is_short_day run (n / 24)) 0 1 ≡ cond (not (is_same_day last n)) 1 0 = ◌∙◌ {b = cond (is_same_day last n) 0 1} (ap (λ b. cond b 0 1) day) (sym (not-flips (is_same_day last n))) in
     let share_is : (m : ℕ) → cond {A = ℕ} (eqb o.cut m) 1 0 ≡ cond (eqb 1 m) 1 0 = λ m. ap (λ k. cond (eqb k m) 1 0) cut_is in
-    let energy_is : (m : ℕ) → cond (eqb o.cut m) (sum (u ∷ [])) 0 ≡ cond (eqb 1 m) u 0 = λ m. ap (λ k. cond (eqb k m) (sum (u ∷ [])) 0) cut_is ∙ ap (λ k. cond (eqb 1 m) k 0) (let s : sum (u ∷ []) ≡ u = omega arith in s) in
+    let energy_is : (m : ℕ) → cond (eqb o.cut m) (sum (u ∷ [])) 0 ≡ cond (eqb 1 m) u 0 = λ m. ◌∙◌ {b = cond (eqb 1 m) (sum (u ∷ [])) 0} (ap (λ k. cond (eqb k m) (sum (u ∷ [])) 0) cut_is) (ap (λ k. cond (eqb 1 m) k 0) (let s : sum (u ∷ []) ≡ u = omega arith in s)) in
     ap shape e ∙
     same_tally (shape old) (tally_of room 1 (run ++ o ∷ [])) refl
     (omega (arith, length-more run o))
@@ -336,23 +332,6 @@ set-at [] y z bound e h = absurd (omega arith)
 set-at (x ∷ []) y zero bound e h = h
 set-at (x ∷ []) y (suc z) bound e h = omega arith
 set-at (x ∷ (x' ∷ xs)) y z bound e h = absurd (omega arith)
-
-pub IsInRange-quiet : (t : Tally) → IsInRange t → t.counted < t.room → IsInRange (record t { counted = t.counted + 1 })
-IsInRange-quiet t is l = record {
-  room = is.room;
-  counted = omega arith;
-  hours = omega (arith, is.hours);
-  days = omega (arith, is.days);
-  events = omega (arith, is.events);
-  unserved = omega (arith, is.unserved);
-  some_zone = is.some_zone;
-  few_zones = is.few_zones;
-  zones = λ z. omega (arith, is.zones z);
-  few_rows = omega (arith, is.few_rows);
-  rows = is.rows;
-  row_hours = λ m. omega (arith, is.row_hours m);
-  row_unserved = λ m. omega (arith, is.row_unserved m);
-}
 
 pub IsInRange-short : (t : Tally) (last : Option ℕ) (u days events : ℕ) (rows : List CutRow) → IsInRange t → t.counted < t.room → length t.figures.zones ≡ 1 → u ≤ 200000 → days ≤ 1 → events ≤ 1 → AddsRows t.figures.cuts (record { mask = 1; hours = 1; unserved = u } ∷ []) rows → length rows ≤ length t.figures.cuts + 1
     → IsInRange (make t.room (t.counted + 1) last (t.figures.hours + 1) (t.figures.days + days) (t.figures.events + events) (t.figures.unserved + u) (set t.figures.zones 0 (get_or t.figures.zones 0 0 + u)) rows)

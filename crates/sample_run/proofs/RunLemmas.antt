@@ -1,19 +1,17 @@
-use Rattle.std.proofs.Common.{◌≡◌, ℕ, zero, suc, ◌+◌, ◌-◌, ◌*◌, ◌^◌, ◌<◌, ◌≤◌, Bool, true, false, not, cond, eqb, ltb, List, [], ◌∷◌, ◌++◌, length, get_or, take, drop, refl, sym, ap, ◌∙◌, arith, subst, ⊎_elim, ◌↔◌}
+use Rattle.std.proofs.Common.{◌≡◌, ℕ, zero, suc, ◌+◌, ◌-◌, ◌*◌, ◌^◌, ◌<◌, ◌≤◌, not, cond, eqb, ltb, List, [], ◌∷◌, ◌++◌, length, get_or, sym, ap, ◌∙◌, arith, ⊎_elim, ◌↔◌}
 use Rattle.std.specs.Prelude.{map, sum_by}
 use Rattle.std.specs.List.{range_with_len}
 use Rattle.std.proofs.lemmas.List.FromFn.{fill_by_all, length-map-range_with_len, get_or-map-range_with_len, map-range_with_len_more}
-use Rattle.std.proofs.lemmas.Bool.{cases_lt, cases_eq, lt-ltb, le-ltb, cases_Bool, ne_eqb, cond-false}
+use Rattle.std.proofs.lemmas.Bool.{cases_lt, lt-ltb, le-ltb, ne_eqb, cond-false}
 use Rattle.system_model.specs.declared.components.Unit.{Unit as UnitPart}
-use Rattle.std.proofs.lemmas.List.{take-append-le, take_all}
-use Rattle.std.proofs.lemmas.List.Elements.{All-get_or}
 use Rattle.system_model.specs.Rates.{out_weight, up_weight}
-use Rattle.system_model.specs.System.{SystemParts, IsValid, IsUnitAmong, no_unit, zone_count, unit_count, hour_count, unit_at, rates_of, capacity_of, load_at, variable_at}
+use Rattle.system_model.specs.System.{SystemParts, unit_count, hour_count, unit_at, capacity_of, load_at, variable_at}
 use Rattle.sample_run.specs.declared.unit_states.UnitState.{UnitState}
 use Rattle.sample_run.specs.Draw.{draw, Draws}
-use Rattle.sample_run.specs.Outages.{is_up, unit_is_up, starts_out, fails, is_repaired, component_count}
-use Rattle.sample_run.specs.Results.{HourOutcome, no_outcome, one_zone_outcome, Tally, tally_of, figures_of, zone_energy}
-use Rattle.sample_run.specs.Run.{up_capacity, unserved_in, run_of, IsRun, IsOnlyRun}
-use Rattle.sample_run.specs.UnitStates.{IsThreshold, IsStateOf, AreStatesOf, state_in, supply_of, no_state}
+use Rattle.sample_run.specs.Outages.{is_up, unit_is_up, fails, is_repaired, component_count}
+use Rattle.sample_run.specs.Results.{HourOutcome, no_outcome, one_zone_outcome, Tally, tally_of, figures_of}
+use Rattle.sample_run.specs.Run.{up_capacity, unserved_in, run_of, IsOnlyRun}
+use Rattle.sample_run.specs.UnitStates.{IsStateOf, AreStatesOf, state_in, supply_of, no_state}
 use Rattle.sample_run.proofs.Counting.{sum_same, sum_by-places}
 
 -- ---- one unit
@@ -87,6 +85,10 @@ pub record IsAt (system : SystemParts) (seed sample hour : ℕ) (draws : Draws) 
   pub up : AreUpBefore system seed sample hour units
   pub result_is : result ≡ tally_of (hour_count system) 1 (outcomes system seed sample hour)
 
+pub started : (draws new : Draws) (seed components sample : ℕ) → new ≡ record draws { sample = sample; place = 0 } → draws.seed ≡ seed → draws.components ≡ components → new ≡ record { seed = seed; components = components; sample = sample; place = 0 }
+started draws new seed components sample e s n =
+    e ∙ ap (λ x. record { seed = x; components = draws.components; sample = sample; place = 0 }) s ∙ ap (λ x. record { seed = seed; components = x; sample = sample; place = 0 }) n
+
 pub start-at : (system : SystemParts) (seed sample : ℕ) (draws : Draws) (units : List UnitState) (result : Tally) → draws ≡ record { seed = seed; components = unit_count system; sample = sample; place = 0 } → AreStatesOf units system → result ≡ tally_of (hour_count system) 1 [] → IsAt system seed sample 0 draws units result
 unfolding AreUpBefore outcomes
 start-at system seed sample draws units result d are r = record {
@@ -147,16 +149,8 @@ pub figures-at : (system : SystemParts) (seed sample hour : ℕ) (draws : Draws)
 unfolding tally_of
 figures-at system seed sample hour draws units result e is = ap (λ (t : Tally). t.figures) (all-at system seed sample hour draws units result e is)
 
--- a list of the same length that is written over another
-pub written_over : {X : Type 0} (old new : List X) (n : ℕ) → length old ≡ n → length new ≡ n → take n (new ++ drop (length new) old) ≡ new
-written_over old new n a b = take-append-le n new (drop (length new) old) (omega arith) ∙ take_all n new (omega arith)
-
 pub tally-none_at : (room zones : ℕ) (t : Tally) (n m : ℕ) → n ≡ room → m ≡ zones → t ≡ tally_of n m [] → t ≡ tally_of room zones []
 tally-none_at room zones t n m a b e = e ∙ ap (λ k. tally_of k m []) a ∙ ap (λ k. tally_of room k []) b
-
-pub parts-of_tally : (room zones : ℕ) → ((tally_of room zones []).room ≡ room) × (length (tally_of room zones []).figures.zones ≡ zones)
-unfolding tally_of figures_of
-parts-of_tally room zones = (refl, length-map-range_with_len (zone_energy []) 0 zones)
 
 -- ---- a sample has exactly one run
 pub one_run : (system : SystemParts) (seed sample : ℕ) → IsOnlyRun system seed sample (run_of system seed sample)
@@ -168,11 +162,3 @@ one_run system seed sample = record {
   };
   only = λ other is. fill_by_all (λ hour. one_zone_outcome (unserved_in system seed sample hour)) other (hour_count system) no_outcome is.hours is.each;
 }
-
--- a unit's capacity is within its limit
-pub capacity-le : (system : SystemParts) (units : List UnitState) (k : ℕ) → IsValid system → AreStatesOf units system → k < length units → (get_or units k no_state).capacity ≤ 200000
-capacity-le system units k valid are l =
-    let in_range : k < unit_count system = (let e : length units ≡ unit_count system = are.len in omega arith) in
-    let unit = All-get_or (IsUnitAmong (zone_count system)) system.units k no_unit in_range valid.within.each_unit in
-    let same : (get_or units k no_state).capacity ≡ (unit_at system k).capacity = (are.each k in_range).capacity in
-    omega (arith, unit.capacity, same)

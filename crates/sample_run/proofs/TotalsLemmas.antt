@@ -1,15 +1,14 @@
-use Rattle.std.proofs.Common.{◌≡◌, ℕ, zero, suc, ◌+◌, ◌-◌, ◌*◌, ◌^◌, ◌<◌, ◌≤◌, List, [], ◌∷◌, ◌++◌, length, get_or, take, drop, replicate, refl, sym, ap, ◌∙◌, arith, subst, ⊎_elim}
+use Rattle.std.proofs.Common.{◌≡◌, ℕ, zero, suc, ◌+◌, ◌-◌, ◌*◌, ◌^◌, ◌<◌, ◌≤◌, List, [], ◌∷◌, ◌++◌, length, get_or, replicate, refl, sym, ap, ◌∙◌, arith, subst, ⊎_elim}
 use Rattle.std.specs.Prelude.{map, sum_by}
 use Rattle.std.specs.List.{range_with_len}
-use Rattle.std.proofs.lemmas.List.{length-append, get_or_past, length-replicate, take-append-le, take_all}
+use Rattle.std.proofs.lemmas.List.{length-append, get_or_past, length-replicate}
 use Rattle.std.proofs.lemmas.List.Sums.{sum_by_push, sum_by-cons}
 use Rattle.std.proofs.lemmas.List.FromFn.{fill_by_all, get_or-map-range_with_len, length-map-range_with_len}
 use Rattle.std.proofs.lemmas.Bool.{cases_lt}
-use Rattle.std.proofs.lemmas.Nat.{pow_pos}
 use Rattle.sample_run.specs.declared.cut_rows.CutRow.{CutRow}
 use Rattle.sample_run.specs.declared.estimates.Sums.{Sums}
 use Rattle.sample_run.specs.CutRows.{rows_of, hours_at, unserved_at, AreRows, AddsRows, masks}
-use Rattle.sample_run.specs.Estimates.{AreSums, no_sums, with_value, FitsMore}
+use Rattle.sample_run.specs.Estimates.{AreSums, no_sums, with_value}
 use Rattle.sample_run.specs.Results.{HourOutcome, short_hours, short_days, short_events, unserved_energy, zone_energy, cut_hours, cut_energy, Figures, figures_of}
 use Rattle.sample_run.specs.Totals.{Sheet, sums_of, totals_of, IsSheet}
 use Rattle.sample_run.proofs.CutRowsLemmas.{rows_are, hours_at-none, unserved_at-none, AreRows-rows_of, hours_at-rows_of, unserved_at-rows_of}
@@ -73,9 +72,6 @@ IsSheet-none zones some few = record {
 }
 
 -- ---- one more sample
-pub FitsMore-sums : (sums : Sums) (n : ℕ) → AreSums sums n → n ≤ 1000000 → FitsMore sums
-FitsMore-sums sums n are few = record { total = omega (arith, are.total); squares = omega (arith, are.squares) }
-
 sums-more : (figure : List HourOutcome → ℕ) (runs : List (List HourOutcome)) (run : List HourOutcome) → with_value (sums_of figure runs) (figure run) ≡ sums_of figure (runs ++ run ∷ [])
 unfolding sums_of
 sums-more figure runs run = same_sums (with_value (sums_of figure runs) (figure run)) (sums_of figure (runs ++ run ∷ [])) (sym (sum_by_push figure runs run)) (sym (sum_by_push (λ r. figure r * figure r) runs run))
@@ -154,7 +150,3 @@ IsSheet-more t hours days events unserved values cuts zs rows is few h d e u vs 
       row_hours = λ m. omega (arith, added.hours m, is.row_hours m, hs m);
       row_unserved = λ m. omega (arith, added.unserved m, is.row_unserved m, us m);
     }
-
--- a list of the same length that is written over another
-pub written_over : (old new : List Sums) (n : ℕ) → length old ≡ n → length new ≡ n → take n (new ++ drop (length new) old) ≡ new
-written_over old new n a b = take-append-le n new (drop (length new) old) (omega arith) ∙ take_all n new (omega arith)

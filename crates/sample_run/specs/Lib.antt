@@ -8,3 +8,4 @@ pub mod Results
 pub mod Run
 pub mod Totals
 pub mod UnitStates
+pub mod WorkedRows

@@ -1,5 +1,5 @@
 -- Up states: a component is in service or out of it, hour by hour.
-use Rattle.std.specs.Prelude.{◌≡◌, ℕ, zero, suc, ◌+◌, ◌*◌, ◌^◌, ◌<◌, Bool, not, nat_lt, ◌↔◌, if◌then◌else◌}
+use Rattle.std.specs.Prelude.{ℕ, zero, suc, ◌+◌, ◌*◌, ◌^◌, Bool, not, nat_lt, if◌then◌else◌}
 use Rattle.system_model.specs.declared.components.Rates.{Rates}
 use Rattle.system_model.specs.Rates.{out_weight, up_weight}
 use Rattle.system_model.specs.System.{SystemParts, unit_count, rates_of}

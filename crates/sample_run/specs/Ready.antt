@@ -1,5 +1,5 @@
 -- What a runner keeps from one sample to the next.
-use Rattle.std.specs.Prelude.{◌≡◌, ℕ, List, length}
+use Rattle.std.specs.Prelude.{◌≡◌, List, length}
 use Rattle.system_model.specs.System.{SystemParts, IsValid, zone_count, unit_count, hour_count}
 use Rattle.sample_run.specs.declared.unit_states.UnitState.{UnitState}
 use Rattle.sample_run.specs.Draw.{Draws}

@@ -1,5 +1,5 @@
 -- Sums over samples: each figure's plain sum and the sum of its squares, and cut rows added by mask.
-use Rattle.std.specs.Prelude.{◌≡◌, ℕ, ◌*◌, ◌^◌, ◌<◌, ◌≤◌, List, length, map, sum_by, slice_index, slice_index_or}
+use Rattle.std.specs.Prelude.{ℕ, ◌*◌, ◌^◌, ◌<◌, ◌≤◌, List, length, map, sum_by, slice_index_or}
 use Rattle.std.specs.List.{range_with_len}
 use Rattle.system_model.specs.System.{SystemParts}
 use Rattle.sample_run.specs.Run.{run_of}

@@ -1,5 +1,5 @@
 -- What a runner keeps for each unit, and how it follows the unit's rates.
-use Rattle.std.specs.Prelude.{◌≡◌, ℕ, ◌+◌, ◌*◌, ◌^◌, ◌<◌, Bool, false, not, nat_lt, ◌==◌, ◌↔◌, List, length, slice_index_or, if◌then◌else◌}
+use Rattle.std.specs.Prelude.{◌≡◌, ℕ, ◌+◌, ◌*◌, ◌^◌, ◌<◌, false, not, nat_lt, ◌==◌, ◌↔◌, List, length, slice_index_or, if◌then◌else◌}
 use Rattle.system_model.specs.System.{SystemParts, unit_count, unit_at}
 use Rattle.system_model.specs.declared.components.Unit.{Unit as UnitPart}
 use Rattle.system_model.specs.Rates.{out_weight, up_weight}

@@ -8,6 +8,8 @@ mod estimates;
 mod hours;
 mod results;
 mod runner;
+#[cfg(test)]
+mod tests;
 mod totals;
 mod unit_states;
 

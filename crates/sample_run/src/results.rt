@@ -85,7 +85,8 @@ impl SampleResult {
         requires few_zones { zones ≤ 32 }
         requires some_hour { 0 < hours }
         requires few_hours { hours ≤ 8784 }
-        ensures { IfOk result (λ r. r ≡ tally_of hours zones []) }
+        ensures empty { IfOk result (λ r. r ≡ tally_of hours zones []) }
+        ensures parts { IfOk result (λ r. (r.counted ≡ 0) × (r.room ≡ hours) × (length r.figures.zones ≡ zones)) }
     {
         Ok(SampleResult {
             room: hours,
@@ -121,8 +122,11 @@ impl SampleResult {
         requires room { hour < self.old.room }
         requires small { unserved ≤ 200000 }
         // Where the result stood for the hours of a run, it now stands for those and this one.
-        ensures { (run : List HourOutcome) → self.old ≡ tally_of self.old.room 1 run
+        ensures run { (run : List HourOutcome) → self.old ≡ tally_of self.old.room 1 run
             → self.new ≡ tally_of self.old.room 1 (run ++ one_zone_outcome unserved ∷ []) }
+        ensures counted { self.new.counted ≡ self.old.counted + 1 }
+        ensures room { self.new.room ≡ self.old.room }
+        ensures zones { length self.new.figures.zones ≡ length self.old.figures.zones }
     {
         self.counted += 1;
         if unserved == 0 {

@@ -87,7 +87,8 @@ impl Totals {
     pub fn new(alloc: Global, zones: u8) -> Result<Totals, OutOfMemory>
         requires some { 0 < zones }
         requires few { zones ≤ 32 }
-        ensures { IfOk result (λ t. t ≡ totals_of zones []) }
+        ensures empty { IfOk result (λ t. t ≡ totals_of zones []) }
+        ensures zones { IfOk result (λ t. length t.zones ≡ zones) }
     {
         Ok(Totals {
             samples: 0,
@@ -108,6 +109,8 @@ impl Totals {
         // the runs and this one.
         ensures ok { OnOk result ((runs : List (List HourOutcome)) (run : List HourOutcome) → let zones = length self.old.zones in
             self.old ≡ totals_of zones runs → sample.now.figures ≡ figures_of zones run → self.new ≡ totals_of zones (runs ++ run ∷ [])) }
+        ensures samples { OnOk result (self.new.samples ≡ self.old.samples + 1) }
+        ensures zones { OnOk result (length self.new.zones ≡ length self.old.zones) }
         ensures err { OnErr result (self.new ≡ self.old) }
     {
         let cuts = sample.cuts();

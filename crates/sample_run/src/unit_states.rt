@@ -50,13 +50,17 @@ impl UnitState {
     pub fn go_on(&mut self, hour: u32, word: u32)
         ensures { self.new ≡ state_in hour self.old word }
     {
+        // A select and a comparison, since what a word decides can't be foretold.
         let word = u64::from(word);
         self.is_up = if hour == 0 {
             word >= self.starts_out
-        } else if self.is_up {
-            word >= self.fails
         } else {
-            word < self.is_repaired
+            let threshold = if self.is_up {
+                self.fails
+            } else {
+                self.is_repaired
+            };
+            self.is_up != (word < threshold)
         };
     }
 
@@ -65,6 +69,6 @@ impl UnitState {
     pub fn supply(&self) -> u32
         ensures { result ≡ supply_of self.now }
     {
-        if self.is_up { self.capacity } else { 0 }
+        self.capacity * u32::from(self.is_up)
     }
 }

@@ -1,5 +1,4 @@
-use Rattle.std.proofs.Common.{arith, refl, length, get_or}
-use Rattle.sample_run.specs.CutRows.{no_row}
+use Rattle.std.proofs.Common.{arith, refl}
 use Rattle.sample_run.proofs.CutRowsLemmas.{AddsFirst-none, AddsFirst-more, AddsFirst-all, next_hours, next_unserved}
 use Rattle.sample_run.proofs.cut_rows.add_rows.Goals as goal
 

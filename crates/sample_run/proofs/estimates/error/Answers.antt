@@ -1,5 +1,4 @@
-use Rattle.std.proofs.Common.{sym, arith, ◌<◌, ◌≤◌, ◌≡◌}
-use Rattle.sample_run.specs.Estimates.{IsGreatestWithin, spread_of, weight_of}
+use Rattle.std.proofs.Common.{sym, arith}
 use Rattle.sample_run.proofs.EstimatesLemmas.{error-one, error-is, IsGreatestWithin-root}
 use Rattle.sample_run.proofs.estimates.error.Goals as goal
 

@@ -1,4 +1,4 @@
-use Rattle.std.proofs.Common.{◌≡◌, length, sym, ◌∙◌, arith}
+use Rattle.std.proofs.Common.{◌≡◌, length, arith}
 use Rattle.sample_run.proofs.HoursLemmas.{halfway-more}
 use Rattle.sample_run.proofs.hours.up_supply.Goals as goal
 

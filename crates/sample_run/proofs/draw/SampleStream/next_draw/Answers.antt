@@ -1,6 +1,6 @@
-use Rattle.std.proofs.Common.{◌≡◌, ◌+◌, ◌*◌, ◌/◌, ◌%◌, sym, ap, ◌∙◌}
+use Rattle.std.proofs.Common.{◌+◌, ◌*◌, ◌/◌, ◌%◌, sym, ap, ◌∙◌}
 use Rattle.std.proofs.lemmas.Nat.{div-add-mod'}
-use Rattle.rand_chacha.specs.ChaCha.{ChaCha, word_at, key_of}
+use Rattle.rand_chacha.specs.ChaCha.{word_at, key_of}
 use Rattle.sample_run.specs.Draw.{draw, Draws, key_bytes}
 use Rattle.sample_run.proofs.draw.SampleStream.next_draw.Goals as goal
 

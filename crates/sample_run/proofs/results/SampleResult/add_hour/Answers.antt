@@ -1,12 +1,12 @@
-use Rattle.std.proofs.Common.{◌≡◌, ℕ, ◌+◌, ◌≤◌, length, get_or, Some, cond, not, Bool, true, false, refl, sym, ap, ◌∙◌, arith}
+use Rattle.std.proofs.Common.{◌≡◌, ◌≤◌, length, get_or, Some, cond, not, Bool, true, false, refl, sym, ap, ◌∙◌, arith}
 use Rattle.std.proofs.lemmas.List.{get_or_read}
 use Rattle.std.specs.Int.{from_bool}
-use Rattle.sample_run.specs.Results.{is_same_day, is_next_hour, one_zone_outcome, Tally}
-use Rattle.sample_run.proofs.ResultsLemmas.{tally-quiet, tally-short, same_tally, make, IsInRange-short}
+use Rattle.sample_run.specs.Results.{is_same_day, is_next_hour, Tally}
+use Rattle.sample_run.proofs.ResultsLemmas.{tally-quiet, tally-short, make, IsInRange-short}
 use Rattle.sample_run.proofs.results.SampleResult.add_hour.Goals as goal
 
-pub returns-then-unserved-eq0 : goal.returns-then-unserved-eq0
-returns-then-unserved-eq0 c run e = rw c.if-unserved-eq0.true (tally-quiet c.args.self.now.room run _ (c.self.view_is ∙ e))
+pub returns-then-unserved-eq0-clause-run : goal.returns-then-unserved-eq0-clause-run
+returns-then-unserved-eq0-clause-run c run e = rw c.if-unserved-eq0.true (tally-quiet c.args.self.now.room run _ (c.self.view_is ∙ e))
 
 bool_byte-is : (b : Bool) → from_bool b ≡ cond b 1 0
 bool_byte-is true = refl
@@ -30,8 +30,8 @@ invariant_of-self-2 c =
     let range = IsInRange-short (make t.room t.counted t.last t.hours t.days t.events t.unserved t.zones.items t.cuts.items) (Some c.args.hour) c.from-energy.result c.from.result c.from-2.result c.add_row.new.rows.items is (omega arith) zones_are (omega arith) day_le event_le c.add_row.ensures.added (omega (arith, c.add_row.ensures.one_more)) in
     (omega (arith, c.add_row.ensures.capacity, c.self.invariant.0), rw first_is range)
 
-pub returns : goal.returns
-returns c run e =
+pub returns-clause-run : goal.returns-clause-run
+returns-clause-run c run e =
     let t = c.self.inside in
     let is = c.self.view_is ∙ e in
     let counted_is : c.args.hour ≡ t.counted = c.requires.next ∙ sym (ap (λ (x : Tally). x.counted) c.self.view_is) in

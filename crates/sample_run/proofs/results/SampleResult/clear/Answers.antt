@@ -1,5 +1,4 @@
-use Rattle.std.proofs.Common.{◌≡◌, length, vec_len, replicate, arith, ap, sym, ◌∙◌}
-use Rattle.sample_run.specs.Results.{Tally}
+use Rattle.std.proofs.Common.{◌≡◌, length, vec_len, replicate, arith, ap, ◌∙◌}
 use Rattle.sample_run.proofs.ResultsLemmas.{tally-none, IsInRange-none}
 use Rattle.sample_run.proofs.results.SampleResult.clear.Goals as goal
 

@@ -1,4 +1,4 @@
-use Rattle.std.proofs.Common.{arith, ℕ, ◌≡◌, replicate}
+use Rattle.std.proofs.Common.{arith, ◌≡◌, replicate}
 use Rattle.sample_run.proofs.ResultsLemmas.{tally-none, IsInRange-none}
 use Rattle.sample_run.proofs.results.SampleResult.new.Goals as goal
 
@@ -10,7 +10,7 @@ invariant_of-result c =
           (IsInRange-none c.args.hours c.args.zones c.requires.few_hours c.requires.some_zone c.requires.few_zones),
     )
 
-pub returns : goal.returns
-returns c =
+pub returns-clause-empty : goal.returns-clause-empty
+returns-clause-empty c =
     let zeros : c.in_ok-vec.field-0.items ≡ replicate c.args.zones 0 = c.in_ok-vec.ensures.items_if_clones_equal (λ y e. e) in
     rw (zeros, c.in_ok-with_capacity.ensures.items) (tally-none c.args.hours c.args.zones)

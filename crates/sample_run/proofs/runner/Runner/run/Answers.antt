@@ -1,10 +1,9 @@
-use Rattle.std.proofs.Common.{◌≡◌, ℕ, ◌+◌, ◌-◌, ◌<◌, ◌≤◌, [], length, vec_len, take, drop, ◌++◌, arith, refl, sym, ap, ◌∙◌}
+use Rattle.std.proofs.Common.{◌≡◌, ◌+◌, ◌-◌, length, vec_len, take, drop, ◌++◌, arith, refl, sym, ap, ◌∙◌}
 use Rattle.system_model.specs.System.{SystemParts, unit_count, hour_count, load_at, variable_at}
 use Rattle.sample_run.specs.Draw.{Draws}
-use Rattle.sample_run.specs.Results.{Tally, tally_of}
 use Rattle.sample_run.specs.Run.{Simulation}
-use Rattle.sample_run.specs.UnitStates.{AreStatesOf}
-use Rattle.sample_run.proofs.RunLemmas.{start-at, more-at, zones-at, counted-at, room-at, figures-at, written_over, tally-none_at, one_run}
+use Rattle.sample_run.proofs.Counting.{written_over}
+use Rattle.sample_run.proofs.RunLemmas.{started, start-at, more-at, zones-at, counted-at, room-at, figures-at, tally-none_at, one_run}
 use Rattle.sample_run.proofs.runner.Runner.run.Goals as goal
 
 pub loop-hour-init : goal.loop-hour-init
@@ -13,7 +12,7 @@ loop-hour-init c =
     let seed_is : c.self.inside.draws.seed ≡ c.args.self.now.seed = ap (λ (s : Simulation). s.seed) c.self.view_is in
     let ready = rw system_is at c.self.invariant in
     let start : c.start.new.self ≡ record { seed = c.args.self.now.seed; components = unit_count c.args.self.now.system; sample = c.args.sample; place = 0 } =
-    c.start.ensures ∙ ap (λ s. record { seed = s; components = c.self.inside.draws.components; sample = c.args.sample; place = 0 }) seed_is ∙ ap (λ n. record { seed = c.args.self.now.seed; components = n; sample = c.args.sample; place = 0 }) ready.components in (
+    started c.self.inside.draws c.start.new.self c.args.self.now.seed (unit_count c.args.self.now.system) c.args.sample c.start.ensures seed_is ready.components in (
       system_is,
       start-at c.args.self.now.system c.args.self.now.seed c.args.sample c.start.new.self c.self.inside.units.items c.clear.new.self start ready.states
           (tally-none_at (hour_count c.args.self.now.system) 1 c.clear.new.self _ _ ready.room ready.zones c.clear.ensures),
@@ -46,7 +45,7 @@ loop-hour-preserved c =
     c.saturating_sub.ensures ∙ ap (λ n. n - (c.up_supply-units.result + c.variable.result)) load ∙ ap (λ n. load_at c.args.self.now.system c.loop-hour.hour 0 - (c.up_supply-units.result + n)) variable in
     let states = rw c.deref_mut.ensures.value at c.up_supply-units.ensures.states in (
       c.loop-hour.invariant.0,
-      rw written (more-at c.args.self.now.system c.args.self.now.seed c.args.sample c.loop-hour.hour c.loop-hour.self-inside.draws c.up_supply-units.new.draws old.items new c.loop-hour.self-inside.result c.add_hour.new.self c.up_supply-units.result c.saturating_sub.result c.loop-hour.invariant.1 long states c.up_supply-units.ensures.draws c.up_supply-units.ensures.supply left c.add_hour.ensures),
+      rw written (more-at c.args.self.now.system c.args.self.now.seed c.args.sample c.loop-hour.hour c.loop-hour.self-inside.draws c.up_supply-units.new.draws old.items new c.loop-hour.self-inside.result c.add_hour.new.self c.up_supply-units.result c.saturating_sub.result c.loop-hour.invariant.1 long states c.up_supply-units.ensures.draws c.up_supply-units.ensures.supply left c.add_hour.ensures.run),
     )
 
 pub invariant_of-self : goal.invariant_of-self

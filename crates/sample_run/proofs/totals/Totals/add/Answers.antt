@@ -1,9 +1,7 @@
-use Rattle.std.proofs.Common.{◌≡◌, ℕ, ◌+◌, ◌≤◌, ◌<◌, length, vec_len, get_or, take, drop, ◌++◌, arith, refl, sym, ap, ◌∙◌}
-use Rattle.std.specs.Prelude.{◌^◌}
-use Rattle.sample_run.specs.CutRows.{AreRows, AddsRows}
-use Rattle.sample_run.specs.Estimates.{no_sums, with_value}
+use Rattle.std.proofs.Common.{◌≡◌, ◌≤◌, length, vec_len, take, drop, ◌++◌, arith, sym, ap, ◌∙◌}
 use Rattle.sample_run.specs.Totals.{Sheet}
-use Rattle.sample_run.proofs.TotalsLemmas.{totals-more, IsSheet-more, ZonesMore, written_over, sheet}
+use Rattle.sample_run.proofs.Counting.{written_over}
+use Rattle.sample_run.proofs.TotalsLemmas.{totals-more, IsSheet-more, ZonesMore, sheet}
 use Rattle.sample_run.proofs.totals.Totals.add.Goals as goal
 
 pub invariant_of-self-2 : goal.invariant_of-self-2
