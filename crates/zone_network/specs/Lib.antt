@@ -1,0 +1,4 @@
+pub mod Sums
+pub mod Network
+pub mod Dispatch
+pub mod Cut
