@@ -1,8 +1,8 @@
 //! The answer to a study: its samples are simulated in order, and the text of their totals is written.
 ghost use Rattle.std.specs.Prelude.{◌≡◌, ◌≤◌, IfOk};
 ghost use Rattle.system_model.specs.System.{zone_count};
-ghost use Rattle.sample_run.specs.Totals.{totals_of};
-ghost use Rattle.adequacy.specs.StudyText.{study_text, runs_of};
+ghost use Rattle.sample_run.specs.Totals.{totals_of, first_runs};
+ghost use Rattle.adequacy.specs.StudyText.{study_text};
 
 use crate::report_text::put_totals;
 use crate::words::StudyWords;
@@ -37,7 +37,7 @@ fn study_totals(
 ) -> Result<Totals, OutOfMemory>
     requires one_zone { zone_count system.now ≡ 1 }
     requires samples { samples ≤ 1000000 }
-    ensures { IfOk result (λ totals. totals ≡ totals_of (zone_count system.now) (runs_of system.now seed samples)) }
+    ensures { IfOk result (λ totals. totals ≡ totals_of (zone_count system.now) (first_runs system.now seed samples)) }
 {
     let mut runner = Runner::new(alloc, system, seed)?;
     let mut totals = Totals::new(alloc, system.zones())?;

@@ -3,7 +3,7 @@ use Rattle.adequacy.proofs.StudyLemmas.{IsUnderWay-start, IsUnderWay-zones, IsUn
 use Rattle.adequacy.proofs.answer.study_totals.Goals as goal
 
 pub loop-sample-init : goal.loop-sample-init
-loop-sample-init c = IsUnderWay-start _ _ _ _ c.in_ok-runner.ensures (rw (← c.zones.ensures.count) c.in_ok-totals.ensures)
+loop-sample-init c = IsUnderWay-start _ _ _ _ c.in_ok-runner.ensures (rw (← c.zones.ensures.count) c.in_ok-totals.ensures.empty)
 
 pub add-requires-clause-zones : goal.add-requires-clause-zones
 add-requires-clause-zones c = IsUnderWay-zones _ _ _ _ _ c.loop-sample.invariant ∙ c.requires.one_zone ∙ sym c.run.ensures.zones
