@@ -1,4 +1,4 @@
-use Rattle.std.specs.Prelude.{◌≡◌, ℕ, ℤ, ◌+◌, ◌-◌, ◌<◌, ◌≤◌, ◌==◌, ◌⊎◌, List, [], ◌∷◌, ◌++◌, length, map, reverse, true, nat_le}
+use Rattle.std.specs.Prelude.{◌≡◌, ℕ, ℤ, ◌+◌, ◌-◌, ◌<◌, ◌≤◌, ◌==◌, ◌⊎◌, List, [], ◌∷◌, ◌++◌, map, reverse, true, nat_le}
 use Rattle.std.specs.List.{range_with_len}
 use Rattle.zone_network.specs.Sums.{NumberSet}
 use Rattle.zone_network.specs.Network.{ShapeParts, NetworkParts, ahead, back, inflow, outflow, over_zones, over_devices, link_count, device_count, supply_at, load_at, forward_at, backward_at, discharge_cap_at, charge_cap_at}
