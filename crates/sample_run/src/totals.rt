@@ -87,7 +87,8 @@ impl Totals {
     pub fn new(alloc: Global, zones: u8) -> Result<Totals, OutOfMemory>
         requires some { 0 < zones }
         requires few { zones ≤ 32 }
-        ensures { IfOk result (λ t. t ≡ totals_of zones []) }
+        ensures empty { IfOk result (λ t. t ≡ totals_of zones []) }
+        ensures zones { IfOk result (λ t. length t.zones ≡ zones) }
     {
         Ok(Totals {
             samples: 0,

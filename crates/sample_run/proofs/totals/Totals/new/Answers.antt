@@ -8,7 +8,7 @@ invariant_of-result c =
     let zeros : c.in_ok-vec.field-0.items ≡ replicate c.args.zones no_sums = c.in_ok-vec.ensures.items_if_clones_equal (λ y e. e) in
     rw (zeros, c.new.ensures.items) (IsSheet-none c.args.zones c.requires.some c.requires.few)
 
-pub returns : goal.returns
-returns c =
+pub returns-clause-empty : goal.returns-clause-empty
+returns-clause-empty c =
     let zeros : c.in_ok-vec.field-0.items ≡ replicate c.args.zones no_sums = c.in_ok-vec.ensures.items_if_clones_equal (λ y e. e) in
     rw (zeros, c.new.ensures.items) (totals-none c.args.zones)
