@@ -6,7 +6,7 @@ use Rattle.std.proofs.lemmas.Bool.{and_parts, ltb-true, leb-true, lt-ltb, le-leb
 use Rattle.std.proofs.lemmas.Option.{cond_some, option_and_then_some}
 use Rattle.std.proofs.lemmas.Slice.Eq.{bytes_eq-Decides}
 use Rattle.adequacy.specs.Plain.{line, is_name_byte, is_name, value_of, probability_text, billionths_of, UnitRow, unit_line, unit_of, IsUnitRow, IsLoad}
-use Rattle.adequacy.specs.PlainReading.{field_until, number_in, billionths_in, NamedUnit, unit_at, load_at}
+use Rattle.adequacy.specs.PlainReading.{field_until, number_in, billionths_in, NamedUnit, first_unit, first_load}
 use Rattle.adequacy.proofs.FieldLaws.{field_until-passed, field_until-sound, number_in-sound, number_in-complete, billionths_in-sound, billionths_in-complete, numeral_digits, name_passes, is_probability_byte, probability_passes, decimal_passes}
 
 -- the unit of a row, with its name
@@ -18,12 +18,12 @@ five_fields : (a b c d e rest : List ℕ)
     → line (a ∷ b ∷ c ∷ d ∷ e ∷ []) ++ rest ≡ a ++ 44 ∷ (b ++ 44 ∷ (c ++ 44 ∷ (d ++ 44 ∷ (e ++ 10 ∷ rest))))
 five_fields a b c d e rest = simp append_assoc
 
-pub unit_at-complete : (zone : List ℕ) (row : UnitRow) (rest : List ℕ)
+pub first_unit-complete : (zone : List ℕ) (row : UnitRow) (rest : List ℕ)
     → is_name zone ≡ true
     → IsUnitRow row
-    → unit_at zone (unit_line zone row ++ rest) ≡ Some (named_of row, rest)
-unfolding unit_at
-unit_at-complete zone row rest named form =
+    → first_unit zone (unit_line zone row ++ rest) ≡ Some (named_of row, rest)
+unfolding first_unit
+first_unit-complete zone row rest named form =
     rw (
       five_fields row.name zone row.capacity (probability_text row.failure) (probability_text row.repair) rest,
       field_until-passed is_name_byte 44 row.name (zone ++ 44 ∷ (row.capacity ++ 44 ∷ (probability_text row.failure ++ 44 ∷ (probability_text row.repair ++ 10 ∷ rest)))) refl (name_passes row.name form.name),
@@ -92,11 +92,11 @@ row-read zone bytes read name place capacity failure repair mw f r en ep ec ef e
           ∙ ap (λ (n : ℕ). record { name = name.0; unit = record { zone = 0; capacity = value_of capacity.0; rates = record { f = billionths_of down.0; r = n } } }) up.3,
     )
 
-pub unit_at-sound : (zone bytes : List ℕ) (read : NamedUnit × List ℕ)
-    → unit_at zone bytes ≡ Some read
+pub first_unit-sound : (zone bytes : List ℕ) (read : NamedUnit × List ℕ)
+    → first_unit zone bytes ≡ Some read
     → (row : UnitRow) × (bytes ≡ unit_line zone row ++ read.1) × IsUnitRow row × (read.0 ≡ named_of row)
-unfolding unit_at
-unit_at-sound zone bytes read h =
+unfolding first_unit
+first_unit-sound zone bytes read h =
     option_and_then_some _ (field_until 44 bytes) read h (λ name en h1.
     option_and_then_some _ (field_until 44 name.1) read h1 (λ place ep h2.
     option_and_then_some _ (field_until 44 place.1) read h2 (λ capacity ec h3.
@@ -111,12 +111,12 @@ unit_at-sound zone bytes read h =
 pub two_fields : (a b rest : List ℕ) → line (a ∷ b ∷ []) ++ rest ≡ a ++ 44 ∷ (b ++ 10 ∷ rest)
 two_fields a b rest = simp append_assoc
 
-pub load_at-complete : (hour : ℕ) (load rest : List ℕ)
+pub first_load-complete : (hour : ℕ) (load rest : List ℕ)
     → hour < 2 ^ 64
     → IsLoad load
-    → load_at hour (line (decimal hour ∷ load ∷ []) ++ rest) ≡ Some (value_of load, rest)
-unfolding load_at
-load_at-complete hour load rest small form =
+    → first_load hour (line (decimal hour ∷ load ∷ []) ++ rest) ≡ Some (value_of load, rest)
+unfolding first_load
+first_load-complete hour load rest small form =
     rw (
       two_fields (decimal hour) load rest,
       field_until-passed is_ascii_digit 44 (decimal hour) (load ++ 10 ∷ rest) refl (decimal_passes hour small),
@@ -149,11 +149,11 @@ load-read hour bytes read number field mw en ef em h =
       ap (λ (p : ℕ × List ℕ). p.0) (sym tested.1) ∙ mw_is.1,
     )
 
-pub load_at-sound : (hour : ℕ) (bytes : List ℕ) (read : ℕ × List ℕ)
-    → load_at hour bytes ≡ Some read
+pub first_load-sound : (hour : ℕ) (bytes : List ℕ) (read : ℕ × List ℕ)
+    → first_load hour bytes ≡ Some read
     → (load : List ℕ) × (bytes ≡ line (decimal hour ∷ load ∷ []) ++ read.1) × IsLoad load × (read.0 ≡ value_of load)
-unfolding load_at
-load_at-sound hour bytes read h =
+unfolding first_load
+first_load-sound hour bytes read h =
     option_and_then_some _ (field_until 44 bytes) read h (λ number en h1.
     option_and_then_some _ (field_until 10 number.1) read h1 (λ field ef h2.
     option_and_then_some _ (number_in 6 field.0) read h2 (λ mw em h3.

@@ -8,8 +8,8 @@ use Rattle.std.proofs.lemmas.List.Sums.{sum_by_push, sum_by-cons}
 use Rattle.system_model.specs.declared.components.Unit.{Unit as UnitPart}
 use Rattle.system_model.specs.System.{SystemParts, pooled_capacity, hour_count}
 use Rattle.adequacy.specs.Plain.{line, is_name, value_of, UnitRow, unit_line, unit_of, IsUnitRow, is_among, DifferFromAbove, load_lines, IsLoad, hour_of}
-use Rattle.adequacy.specs.PlainReading.{NamedUnit, unit_at, with_unit, can_join, with_units, load_at, with_hour, with_hours}
-use Rattle.adequacy.proofs.RowLaws.{named_of, unit_at-complete, unit_at-sound, load_at-complete, load_at-sound}
+use Rattle.adequacy.specs.PlainReading.{NamedUnit, first_unit, with_unit, can_join, with_units, first_load, with_hour, with_hours}
+use Rattle.adequacy.proofs.RowLaws.{named_of, first_unit-complete, first_unit-sound, first_load-complete, first_load-sound}
 
 -- the parts with the units of rows, and with the hours of loads
 abbrev pub with_rows : SystemParts → List UnitRow → SystemParts
@@ -106,8 +106,8 @@ units-sound zone left s t [] room h =
     }
 units-sound zone zero s t (byte ∷ bytes) room h = absurd (let h' : None ≡ Some t = h in cc)
 units-sound zone (suc left) s t (byte ∷ bytes) room h =
-    option_and_then_some _ (unit_at zone (byte ∷ bytes)) t h (λ read e h1.
-    let row = unit_at-sound zone (byte ∷ bytes) read e in
+    option_and_then_some _ (first_unit zone (byte ∷ bytes)) t h (λ read e h1.
+    let row = first_unit-sound zone (byte ∷ bytes) read e in
     let taken = chosen (can_join s read.0) (with_units zone left (with_unit s read.0) read.1) t h1 in
     let CanJoin : NamedUnit → Type 0 = λ named. can_join s named ≡ true in
     let Rest : NamedUnit → Type 0 = λ named. with_units zone left (with_unit s named) read.1 ≡ Some t in
@@ -118,10 +118,10 @@ units-sound zone (suc left) s t (byte ∷ bytes) room h =
 
 -- a line that is read is the first of those that are left
 with_units-step : (zone : List ℕ) (left : ℕ) (s : SystemParts) (bytes : List ℕ) (read : NamedUnit × List ℕ)
-    → unit_at zone bytes ≡ Some read
+    → first_unit zone bytes ≡ Some read
     → can_join s read.0 ≡ true
     → with_units zone (suc left) s bytes ≡ with_units zone left (with_unit s read.0) read.1
-unfolding with_units unit_at
+unfolding with_units first_unit
 with_units-step zone left s [] read e joins = absurd (let h' : None ≡ Some read = e in cc)
 with_units-step zone left s (byte ∷ bytes) read e joins = rw (e, joins) refl
 
@@ -142,7 +142,7 @@ units-complete zone (suc left) s (row ∷ rows) named few each names pooled =
     (not_from_false (is_among s.unit_names row.name) names.0)
     (le-leb (pooled_capacity s.units + value_of row.capacity) 200000 (omega (arith, all))) in
     with_units-step zone left s (flat_map (unit_line zone) (row ∷ rows)) (named_of row, flat_map (unit_line zone) rows)
-    (unit_at-complete zone row (flat_map (unit_line zone) rows) named each.0) joins
+    (first_unit-complete zone row (flat_map (unit_line zone) rows) named each.0) joins
     ∙ units-complete zone left (with_unit s (named_of row)) rows named (omega arith) each.1 names.1
     (omega (arith, all, sum_by_push (λ (unit : UnitPart). unit.capacity) s.units (unit_of row)))
     ∙ ap (λ (t : SystemParts). Some t) (with_rows-more s row rows)
@@ -189,17 +189,17 @@ hours-sound left s t [] h =
     }
 hours-sound zero s t (byte ∷ bytes) h = absurd (let h' : None ≡ Some t = h in cc)
 hours-sound (suc left) s t (byte ∷ bytes) h =
-    option_and_then_some _ (load_at (hour_count s) (byte ∷ bytes)) t h (λ read e h1.
-    let load = load_at-sound (hour_count s) (byte ∷ bytes) read e in
+    option_and_then_some _ (first_load (hour_count s) (byte ∷ bytes)) t h (λ read e h1.
+    let load = first_load-sound (hour_count s) (byte ∷ bytes) read e in
     let Rest : ℕ → Type 0 = λ mw. with_hours left (with_hour s mw) read.1 ≡ Some t in
     let rest : with_hours left (with_hour s (value_of load.0)) read.1 ≡ Some t = subst Rest load.3 h1 in
     hours-more left s t (byte ∷ bytes) read.1 load.0 load.1 load.2
     (hours-sound left (with_hour s (value_of load.0)) t read.1 rest))
 
 with_hours-step : (left : ℕ) (s : SystemParts) (bytes : List ℕ) (read : ℕ × List ℕ)
-    → load_at (hour_count s) bytes ≡ Some read
+    → first_load (hour_count s) bytes ≡ Some read
     → with_hours (suc left) s bytes ≡ with_hours left (with_hour s read.0) read.1
-unfolding with_hours load_at
+unfolding with_hours first_load
 with_hours-step left s [] read e = absurd (let h' : None ≡ Some read = e in cc)
 with_hours-step left s (byte ∷ bytes) read e = rw e refl
 
@@ -214,7 +214,7 @@ hours-complete zero s (load ∷ loads) most few each = absurd (omega arith)
 hours-complete (suc left) s (load ∷ loads) most few each =
     let counted = hours-counted s load in
     with_hours-step left s (load_lines (hour_count s) (load ∷ loads)) (value_of load, load_lines (hour_count s + 1) loads)
-    (load_at-complete (hour_count s) load (load_lines (hour_count s + 1) loads) (omega arith) each.0)
+    (first_load-complete (hour_count s) load (load_lines (hour_count s + 1) loads) (omega arith) each.0)
     ∙ ap (λ (n : ℕ). with_hours left (with_hour s (value_of load)) (load_lines n loads)) (sym counted)
     ∙ hours-complete left (with_hour s (value_of load)) loads (omega (arith, counted)) (omega arith) each.1
     ∙ ap (λ (t : SystemParts). Some t) (with_loads-more s load loads)

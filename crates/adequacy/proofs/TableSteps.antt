@@ -3,7 +3,7 @@ use Rattle.std.proofs.lemmas.Bool.{and_from, and_left, and_right, not_from_true,
 use Rattle.std.proofs.Math.ListN.{set}
 use Rattle.system_model.specs.System.{SystemParts, IsHourAmong, amounts_of, pooled_capacity, hour_count}
 use Rattle.adequacy.specs.Plain.{is_among}
-use Rattle.adequacy.specs.PlainReading.{NamedUnit, unit_at, with_unit, can_join, with_units, load_at, with_hour, with_hours}
+use Rattle.adequacy.specs.PlainReading.{NamedUnit, first_unit, with_unit, can_join, with_units, first_load, with_hour, with_hours}
 
 -- no line is left
 pub units-done : (zone : List ℕ) (left : ℕ) (s : SystemParts) (bytes : List ℕ) → length bytes ≡ 0 → with_units zone left s bytes ≡ Some s
@@ -24,7 +24,7 @@ units-full zone (suc left) s (byte ∷ bytes) some full = absurd (omega arith)
 -- a line that isn't one of a unit
 pub units-unread : (zone : List ℕ) (left : ℕ) (s : SystemParts) (bytes : List ℕ)
     → 0 < length bytes
-    → unit_at zone bytes ≡ None
+    → first_unit zone bytes ≡ None
     → with_units zone left s bytes ≡ None
 unfolding with_units
 units-unread zone left s [] some unread = absurd (omega arith)
@@ -34,7 +34,7 @@ units-unread zone (suc left) s (byte ∷ bytes) some unread = rw unread refl
 -- a unit that may not join
 pub units-refused : (zone : List ℕ) (left : ℕ) (s : SystemParts) (bytes : List ℕ) (read : NamedUnit × List ℕ)
     → 0 < length bytes
-    → unit_at zone bytes ≡ Some read
+    → first_unit zone bytes ≡ Some read
     → can_join s read.0 ≡ false
     → with_units zone left s bytes ≡ None
 unfolding with_units
@@ -46,7 +46,7 @@ units-refused zone (suc left) s (byte ∷ bytes) read some e refused = rw (e, re
 pub units-joined : (zone : List ℕ) (left : ℕ) (s : SystemParts) (bytes : List ℕ) (read : NamedUnit × List ℕ)
     → 0 < length bytes
     → 0 < left
-    → unit_at zone bytes ≡ Some read
+    → first_unit zone bytes ≡ Some read
     → can_join s read.0 ≡ true
     → with_units zone left s bytes ≡ with_units zone (left - 1) (with_unit s read.0) read.1
 unfolding with_units
@@ -94,7 +94,7 @@ hours-full (suc left) s (byte ∷ bytes) some full = absurd (omega arith)
 pub hours-unread : (left : ℕ) (s : SystemParts) (bytes : List ℕ) (hour : ℕ)
     → 0 < length bytes
     → hour_count s ≡ hour
-    → load_at hour bytes ≡ None
+    → first_load hour bytes ≡ None
     → with_hours left s bytes ≡ None
 unfolding with_hours
 hours-unread left s [] hour some is unread = absurd (omega arith)
@@ -106,7 +106,7 @@ pub hours-joined : (left : ℕ) (s : SystemParts) (bytes : List ℕ) (hour : ℕ
     → 0 < length bytes
     → 0 < left
     → hour_count s ≡ hour
-    → load_at hour bytes ≡ Some read
+    → first_load hour bytes ≡ Some read
     → with_hours left s bytes ≡ with_hours (left - 1) (with_hour s read.0) read.1
 unfolding with_hours
 hours-joined left s [] hour read some room is e = absurd (omega arith)

@@ -41,8 +41,8 @@ pub record NamedUnit : Type 0 where
   pub unit : UnitPart
 
 -- the unit of the first line, and the lines behind it
-unfoldable pub unit_at : List ℕ → List ℕ → Option (NamedUnit × List ℕ)
-unit_at zone bytes = do
+unfoldable pub first_unit : List ℕ → List ℕ → Option (NamedUnit × List ℕ)
+first_unit zone bytes = do
   name ← field_until 44 bytes
   place ← field_until 44 name.1
   capacity ← field_until 44 place.1
@@ -69,12 +69,12 @@ unfoldable pub with_units : List ℕ → ℕ → SystemParts → List ℕ → Op
 with_units zone left s [] = Some s
 with_units zone zero s (byte ∷ bytes) = None
 with_units zone (suc left) s (byte ∷ bytes) = do
-  read ← unit_at zone (byte ∷ bytes)
+  read ← first_unit zone (byte ∷ bytes)
   if can_join s read.0 then with_units zone left (with_unit s read.0) read.1 else None
 
 -- the load of the first line, which is in this hour, and the lines behind it
-unfoldable pub load_at : ℕ → List ℕ → Option (ℕ × List ℕ)
-load_at hour bytes = do
+unfoldable pub first_load : ℕ → List ℕ → Option (ℕ × List ℕ)
+first_load hour bytes = do
   number ← field_until 44 bytes
   load ← field_until 10 number.1
   mw ← number_in 6 load.0
@@ -89,7 +89,7 @@ unfoldable pub with_hours : ℕ → SystemParts → List ℕ → Option SystemPa
 with_hours left s [] = Some s
 with_hours zero s (byte ∷ bytes) = None
 with_hours (suc left) s (byte ∷ bytes) = do
-  read ← load_at (hour_count s) (byte ∷ bytes)
+  read ← first_load (hour_count s) (byte ∷ bytes)
   with_hours left (with_hour s read.0) read.1
 
 -- the zone that the table `zones` names

@@ -3,7 +3,7 @@ ghost use Rattle.std.specs.Prelude.{◌≡◌, ◌<◌, ◌≤◌, length, decim
 ghost use Rattle.std.specs.Option.{option_map};
 ghost use Rattle.system_model.specs.Rates.{AreRates};
 ghost use Rattle.system_model.specs.System.{IsName};
-ghost use Rattle.adequacy.specs.PlainReading.{unit_at, load_at};
+ghost use Rattle.adequacy.specs.PlainReading.{first_unit, first_load};
 
 use crate::plain_fields::{billionths, field, is_plain_name, number};
 use itoa::Buffer;
@@ -18,9 +18,9 @@ pub(crate) struct UnitLine<'a> {
 }
 
 // Reads a unit's line. The unit stands in the zone of this name.
-#[tactic(auto, unfolding(crate::specs::PlainReading::unit_at))]
+#[tactic(auto, unfolding(crate::specs::PlainReading::first_unit))]
 pub(crate) fn next_unit<'a>(zone: &[u8], lines: &'a [u8]) -> Option<UnitLine<'a>>
-    ensures value { option_map (λ line. (record { name = line.name.now; unit = line.unit }, line.rest.now)) result ≡ unit_at zone.now lines.now }
+    ensures value { option_map (λ line. (record { name = line.name.now; unit = line.unit }, line.rest.now)) result ≡ first_unit zone.now lines.now }
     ensures shorter { IfSome result (λ line. length line.rest.now < length lines.now) }
     ensures name { IfSome result (λ line. IsName line.name.now) }
     ensures zone { IfSome result (λ line. line.unit.zone ≡ 0) }
@@ -47,9 +47,9 @@ pub(crate) fn next_unit<'a>(zone: &[u8], lines: &'a [u8]) -> Option<UnitLine<'a>
 }
 
 // Reads the line of an hour: its load in MW, and the lines behind it.
-#[tactic(auto, unfolding(crate::specs::PlainReading::load_at))]
+#[tactic(auto, unfolding(crate::specs::PlainReading::first_load))]
 pub(crate) fn next_load(hour: u32, lines: &[u8]) -> Option<(u32, &[u8])>
-    ensures value { option_map (λ p. (p.0, p.1.now)) result ≡ load_at hour lines.now }
+    ensures value { option_map (λ p. (p.0, p.1.now)) result ≡ first_load hour lines.now }
     ensures shorter { IfSome result (λ p. length p.1.now < length lines.now) }
     ensures most { IfSome result (λ p. p.0 ≤ 200000) }
 {

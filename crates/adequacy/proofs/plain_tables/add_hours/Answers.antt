@@ -1,7 +1,7 @@
 use Rattle.std.proofs.Common.{rules, arith, ◌≡◌, ◌<◌, ◌≤◌, ◌+◌, ◌-◌, ℕ, length, sym, ap, ◌∙◌, refl, List, [], ◌∷◌, ◌++◌, Some, None}
 use Rattle.std.proofs.lemmas.List.{length_push}
 use Rattle.system_model.specs.System.{amounts_of, hour_count}
-use Rattle.adequacy.specs.PlainReading.{load_at, with_hour, with_hours}
+use Rattle.adequacy.specs.PlainReading.{first_load, with_hour, with_hours}
 use Rattle.adequacy.proofs.TableSteps.{hours-done, hours-full, hours-unread, hours-joined, set_single, is_hour}
 use Rattle.adequacy.proofs.plain_tables.add_hours.Goals as goal
 
@@ -16,7 +16,7 @@ returns-then-hour-eq-HOURS-clause-read c =
 pub returns-in_default-clause-read : goal.returns-in_default-clause-read
 returns-in_default-clause-read c =
     let some : 0 < length c.loop-rest.rest.now = search rules in
-    let unread : load_at c.loop-rest.hour c.loop-rest.rest.now ≡ None = search rules in
+    let unread : first_load c.loop-rest.hour c.loop-rest.rest.now ≡ None = search rules in
     let none : with_hours 8784 c.args.draft.now c.args.lines.now ≡ None =
     sym c.loop-rest.invariant.read ∙ hours-unread _ _ _ c.loop-rest.hour some c.loop-rest.invariant.hours unread in
     rw (c.not_plain-in_default.ensures, none) refl
@@ -32,7 +32,7 @@ pub loop-rest-preserved : goal.loop-rest-preserved
 loop-rest-preserved c =
     let some : 0 < length c.loop-rest.rest.now = search rules in
     let read : ℕ × List ℕ = (c.in-Some.mw, c.in-Some.behind.now) in
-    let e : load_at c.loop-rest.hour c.loop-rest.rest.now ≡ Some read = search rules in
+    let e : first_load c.loop-rest.hour c.loop-rest.rest.now ≡ Some read = search rules in
     let room : 0 < 8784 - c.loop-rest.hour = omega arith in
     let load : c.set.new.self ≡ c.in-Some.mw ∷ [] = c.set.ensures ∙ set_single c.loop-rest.load c.in-Some.mw c.loop-rest.invariant.load in
     let variable : c.in_ok-variable.variable ≡ 0 ∷ [] = search rules in

@@ -3,7 +3,7 @@ use Rattle.std.proofs.lemmas.List.{map-append, length_push}
 use Rattle.std.proofs.lemmas.List.Sums.{sum_by_push}
 use Rattle.system_model.specs.declared.components.Unit.{Unit as UnitPart}
 use Rattle.adequacy.specs.Plain.{is_among}
-use Rattle.adequacy.specs.PlainReading.{NamedUnit, unit_at, with_unit, can_join, with_units}
+use Rattle.adequacy.specs.PlainReading.{NamedUnit, first_unit, with_unit, can_join, with_units}
 use Rattle.adequacy.proofs.TableSteps.{units-done, units-full, units-unread, units-refused, units-joined, may_join, taken_name, too_much}
 use Rattle.adequacy.proofs.plain_tables.add_units.Goals as goal
 use Rattle.adequacy.proofs.plain_tables.add_units.Goals.{then-is_taken-via-then-is_taken, then-is_taken-via-else-is_taken+then-line-pooled}
@@ -19,7 +19,7 @@ returns-then-len-eq-UNITS-clause-read c =
 pub returns-in_default-clause-read : goal.returns-in_default-clause-read
 returns-in_default-clause-read c =
     let some : 0 < length c.loop-rest.rest.now = search rules in
-    let unread : unit_at c.args.zone.now c.loop-rest.rest.now ≡ None = search rules in
+    let unread : first_unit c.args.zone.now c.loop-rest.rest.now ≡ None = search rules in
     let none : with_units c.args.zone.now 2048 c.args.draft.now c.args.lines.now ≡ None =
     sym c.loop-rest.invariant.read ∙ units-unread _ _ _ _ some unread in
     rw (c.not_plain-in_default.ensures, none) refl
@@ -28,7 +28,7 @@ pub returns-then-is_taken-clause-read : goal.returns-then-is_taken-clause-read
 returns-then-is_taken-clause-read c =
     let some : 0 < length c.loop-rest.rest.now = search rules in
     let read : NamedUnit × List ℕ = (record { name = c.in-Some.line.name.now; unit = c.in-Some.line.unit }, c.in-Some.line.rest.now) in
-    let e : unit_at c.args.zone.now c.loop-rest.rest.now ≡ Some read = search rules in
+    let e : first_unit c.args.zone.now c.loop-rest.rest.now ≡ Some read = search rules in
     let refused : can_join c.loop-rest.draft read.0 ≡ false =
     elim c.then-is_taken.branch [
       | then-is_taken-via-then-is_taken w ↦ taken_name c.loop-rest.draft read.0
@@ -44,7 +44,7 @@ pub loop-rest-preserved : goal.loop-rest-preserved
 loop-rest-preserved c =
     let some : 0 < length c.loop-rest.rest.now = search rules in
     let read : NamedUnit × List ℕ = (record { name = c.in-Some.line.name.now; unit = c.in-Some.line.unit }, c.in-Some.line.rest.now) in
-    let e : unit_at c.args.zone.now c.loop-rest.rest.now ≡ Some read = search rules in
+    let e : first_unit c.args.zone.now c.loop-rest.rest.now ≡ Some read = search rules in
     let new : is_among c.loop-rest.draft.unit_names read.0.name ≡ false =
     rw (← c.loop-rest.invariant.names, ← c.deref.ensures.value) (sym c.is_taken.ensures ∙ c.if-is_taken.false) in
     let joins : can_join c.loop-rest.draft read.0 ≡ true =
