@@ -2,9 +2,13 @@
 use Rattle.std.specs.Prelude.{◌≡◌, ◌≤◌, ◌+◌, ◌-◌, ◌^◌, ◌++◌, ℕ, List, Bool, true, false, Option, min}
 use Rattle.std.specs.Option.{option_map}
 
+-- a count after one more, which stands still at the end of its type
+abbrev pub one_more : ℕ → ℕ
+one_more count = min (count + 1) (2 ^ 64 - 1)
+
 -- a count went up during a call; one that stands at the end of its type when the call returns is taken as risen
 abbrev pub Rose : ℕ → ℕ → Type 0
-Rose before now = min (before + 1) (2 ^ 64 - 1) ≤ now
+Rose before now = one_more before ≤ now
 
 -- a count of one kind of refusal over a call: it rose where the call answered that refusal, else it stands still
 abbrev pub Counts : Bool → ℕ → ℕ → Type 0

@@ -2,7 +2,6 @@
 use Rattle.std.specs.Prelude.{◌≡◌, ◌≤◌, ◌<◌, ℕ, List, Bool, true, false, Option, Some, None, Result, Ok, Err, length}
 use Rattle.ra_base.specs.Causes.{Gained, GainedPart}
 use Rattle.ra_base.specs.declared.table.TableName.{TableName}
-use Rattle.ra_base.specs.declared.table.TableName.TheVariants.{Zones, Units, Interfaces, Lines, Storages, Load, Variable}
 use Rattle.ra_base.specs.declared.status.Status.{Status}
 use Rattle.ra_base.specs.declared.status.Status.TheVariants.{Done, Words, Table, ReadFault, WriteFault, OutOfMemory, Cancelled, RecorderRefused}
 use Rattle.ra_base.specs.declared.shelf.ShelfError.{ShelfError}

@@ -1,9 +1,9 @@
 ghost use Rattle.std.specs.Prelude.{◌≡◌, ◌↔◌, ◌+◌, ◌-◌, ◌<◌, ◌≤◌, ◌^◌, ◌++◌, [], ◌∷◌, None, Some, Contains, IsErrOf, OnOk, OnErr, List, ℕ, min};
 ghost use Rattle.std.specs.Option.{option_copied};
-ghost use Rattle.ra_base.specs.Causes.{Counts};
+ghost use Rattle.ra_base.specs.Causes.{Counts, one_more};
 ghost use Rattle.ra_base.specs.Outside.{ReadsAs, is_missing, is_too_long, is_read_fault};
 ghost use Rattle.ra_base.specs.declared.table.TableName.{TableName};
-ghost use Rattle.ra_base.specs.MemoryShelf.{tables_of, failing_of, calls_of, counts_of, with_table, shelved, is_same};
+ghost use Rattle.ra_base.specs.MemoryShelf.{tables_of, failing_of, calls_of, counts_of, counted, with_table, shelved, is_same};
 
 use crate::{OutOfMemory, Shelf, ShelfError, TableName, Text};
 use std::alloc::Global;
@@ -105,7 +105,8 @@ impl Shelf for MemoryShelf {
         ensures misses { Counts (is_missing result) self.old.misses self.new.misses }
         ensures overlong { Counts (is_too_long result) self.old.overlong self.new.overlong }
         ensures faults { Counts (is_read_fault result) self.old.faults self.new.faults }
-        ensures calls { calls_of self.new ≡ min (calls_of self.old + 1) (2 ^ 64 - 1) }
+        ensures counts { counts_of self.new ≡ counted (counts_of self.old) result }
+        ensures calls { calls_of self.new ≡ one_more (calls_of self.old) }
         ensures failing { failing_of self.new ≡ failing_of self.old }
         ensures fails { IsErrOf result ShelfError.Fault ↔ Contains (failing_of self.old) (calls_of self.new) }
     {

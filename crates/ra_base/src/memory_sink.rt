@@ -1,5 +1,5 @@
 ghost use Rattle.std.specs.Prelude.{◌≡◌, ◌↔◌, ◌≤◌, ◌+◌, ◌-◌, ◌++◌, [], Some, IfOk, IsOk, OnErr, length, take, is_err};
-ghost use Rattle.ra_base.specs.Causes.{Counts};
+ghost use Rattle.ra_base.specs.Causes.{Counts, one_more};
 ghost use Rattle.ra_base.specs.Outside.{Writes};
 
 use crate::{OutOfMemory, Sink, SinkFault};
@@ -60,6 +60,7 @@ impl Sink for MemorySink {
         ensures faults { Counts (is_err result) self.old.faults self.new.faults }
         ensures fits { IsOk result ↔ (length self.old.held + length piece.now ≤ self.old.capacity) }
         ensures part { OnErr result (self.new.held ≡ self.old.held ++ take (self.old.capacity - length self.old.held) piece.now) }
+        ensures count { OnErr result (self.new.faults ≡ one_more self.old.faults) }
         ensures capacity { self.new.capacity ≡ self.old.capacity }
     {
         let room = self.capacity - self.bytes.len();
