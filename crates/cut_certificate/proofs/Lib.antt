@@ -1,0 +1,4 @@
+pub mod SumSteps
+pub mod OrderLemmas
+pub mod RowLemmas
+pub mod BestLemmas

@@ -1,0 +1,134 @@
+use Rattle.std.specs.Prelude.{◌≡◌, ◌≢◌, ℕ, ℤ, pos, ◌+◌, ◌-◌, ◌<◌, ◌≤◌, ◌^◌, ◌&&◌, IsTrue, All, length, slice_index, slice_index_or, nat_lt, nat_le, if◌then◌else◌}
+use Rattle.zone_network.specs.Sums.{inside}
+use Rattle.zone_network.specs.Network.{NetworkParts, into, over_zones, over_devices, zone_of_device, link_count, device_count, load_at, discharge_cap_at, charge_cap_at}
+use Rattle.zone_network.specs.Dispatch.{Dispatch, IsFeasible, IsBest, not_after, unserved_at}
+use Rattle.zone_network.specs.Cut.{supply_of, discharge_caps_of}
+use Rattle.sample_totals.specs.declared.outcomes.HourOutcome.{HourOutcome}
+use Rattle.cut_certificate.specs.declared.chains.Chain.{Chain}
+
+-- each list of the outcome and of the chain has the length that the network's shape gives it, and each mask has
+-- bits of the network's zones alone
+pub record Fit (n : NetworkParts) (outcome : HourOutcome) (chain : Chain) : Type 0 where
+  pub unserved : length outcome.unserved ≡ n.shape.zones
+  pub discharge : length outcome.discharge ≡ device_count n.shape
+  pub charge : length outcome.charge ≡ device_count n.shape
+  pub energy : length outcome.energy ≡ device_count n.shape
+  pub flows : length chain.flows ≡ link_count n.shape
+  pub generation : length chain.generation ≡ n.shape.zones
+  pub sets : length chain.sets ≡ n.shape.zones + device_count n.shape + device_count n.shape
+  pub masks : All (λ mask. mask < 2 ^ n.shape.zones) chain.sets
+
+-- what the outcome says of a zone and of a device, in MW
+abbrev pub unserved_in : HourOutcome → ℕ → ℕ
+unserved_in outcome = slice_index outcome.unserved
+
+abbrev pub discharge_in : HourOutcome → ℕ → ℕ
+discharge_in outcome = slice_index outcome.discharge
+
+abbrev pub charge_in : HourOutcome → ℕ → ℕ
+charge_in outcome = slice_index outcome.charge
+
+-- what is served of a zone's load
+abbrev pub served_in : NetworkParts → HourOutcome → ℕ → ℕ
+served_in n outcome z = load_at n z - unserved_in outcome z
+
+-- what the chain says of a zone and of a link, in MW
+abbrev pub generation_in : Chain → ℕ → ℕ
+generation_in chain = slice_index chain.generation
+
+abbrev pub flow_in : Chain → ℕ → ℤ
+flow_in chain l = slice_index_or chain.flows l (pos 0)
+
+-- the mask that the chain has for a component: one for each zone, then one for each device's discharge, then one
+-- for each device's charge
+abbrev pub zone_set : Chain → ℕ → ℕ
+zone_set chain z = slice_index chain.sets z
+
+abbrev pub discharge_set : NetworkParts → Chain → ℕ → ℕ
+discharge_set n chain k = slice_index chain.sets (n.shape.zones + k)
+
+abbrev pub charge_set : NetworkParts → Chain → ℕ → ℕ
+charge_set n chain k = slice_index chain.sets (n.shape.zones + device_count n.shape + k)
+
+-- what the network does by the outcome with the chain's flows and generation
+abbrev pub dispatch_of : NetworkParts → HourOutcome → Chain → Dispatch
+dispatch_of n outcome chain =
+    record {
+      generation = generation_in chain;
+      served = served_in n outcome;
+      discharge = discharge_in outcome;
+      charge = charge_in outcome;
+      flow = flow_in chain;
+    }
+
+-- the outcome with the chain's flows and generation is feasible: no zone lacks more than its load, and what the
+-- network does is feasible
+pub record IsFeasibleBy (n : NetworkParts) (outcome : HourOutcome) (chain : Chain) : Type 0 where
+  pub within : (z : ℕ) → z < n.shape.zones → unserved_in outcome z ≤ load_at n z
+  pub feasible : IsFeasible n (dispatch_of n outcome chain)
+
+-- the discharge caps of the devices before a device, and what is discharged from it on
+abbrev pub with_caps_before : NetworkParts → (ℕ → ℕ) → ℕ → ℕ → ℕ
+with_caps_before n discharge k = λ i. if nat_lt i k then discharge_cap_at n i else discharge i
+
+-- what is charged up to a device, and nothing from the next one on
+abbrev pub up_to : (ℕ → ℕ) → ℕ → ℕ → ℕ
+up_to charge k = λ i. if nat_le i k then charge i else 0
+
+-- A mask proves that a component can't be improved while those before it in the order of comparison stay. The mask
+-- 0 stands for a component at its bound. A set proves it where the zone of the component is in the set and all that
+-- could serve the set is used up.
+
+-- unserved load of a zone: what is served in the set's zones that don't stand after it is all that there is
+pub record ProvesUnserved (n : NetworkParts) (served : ℕ → ℕ) (unserved : ℕ → ℕ) (z mask : ℕ) : Type 0 where
+  pub bound : mask ≡ 0 → unserved z ≡ 0
+  pub member : mask ≢ 0 → IsTrue (inside mask z)
+  pub used :
+      mask ≢ 0
+      → over_zones n.shape served (λ j. inside mask j && not_after n.shape z j)
+      ≡ supply_of n (inside mask) + discharge_caps_of n (inside mask) + into n (inside mask)
+
+-- discharge of a device: what is served in the set takes all of the supply, of the limits into it, of the caps of
+-- the devices before it, and what is discharged from it on
+pub record ProvesDischarge (n : NetworkParts) (served discharge : ℕ → ℕ) (k mask : ℕ) : Type 0 where
+  pub bound : mask ≡ 0 → discharge k ≡ 0
+  pub member : mask ≢ 0 → IsTrue (inside mask (zone_of_device n.shape k))
+  pub used :
+      mask ≢ 0
+      → over_zones n.shape served (inside mask)
+      ≡ supply_of n (inside mask) + into n (inside mask) + over_devices n.shape (with_caps_before n discharge k) (inside mask)
+
+-- charge of a device: what is served in the set, and charged there up to it, takes all of the supply, of the
+-- discharge and of the limits into it
+pub record ProvesCharge (n : NetworkParts) (served discharge charge : ℕ → ℕ) (k mask : ℕ) : Type 0 where
+  pub bound : mask ≡ 0 → charge k ≡ charge_cap_at n k
+  pub member : mask ≢ 0 → IsTrue (inside mask (zone_of_device n.shape k))
+  pub used :
+      mask ≢ 0
+      → over_zones n.shape served (inside mask) + over_devices n.shape (up_to charge k) (inside mask)
+      ≡ supply_of n (inside mask) + over_devices n.shape discharge (inside mask) + into n (inside mask)
+
+-- each mask of the chain proves its component
+pub record IsProvedBy (n : NetworkParts) (outcome : HourOutcome) (chain : Chain) : Type 0 where
+  pub unserved :
+      (z : ℕ)
+      → z < n.shape.zones
+      → ProvesUnserved n (served_in n outcome) (unserved_in outcome) z (zone_set chain z)
+  pub discharge :
+      (k : ℕ)
+      → k < device_count n.shape
+      → ProvesDischarge n (served_in n outcome) (discharge_in outcome) k (discharge_set n chain k)
+  pub charge :
+      (k : ℕ)
+      → k < device_count n.shape
+      → ProvesCharge n (served_in n outcome) (discharge_in outcome) (charge_in outcome) k (charge_set n chain k)
+
+-- the outcome's lists are those of a dispatch
+pub record AreListsOf (n : NetworkParts) (d : Dispatch) (outcome : HourOutcome) : Type 0 where
+  pub unserved : (z : ℕ) → z < n.shape.zones → unserved_in outcome z ≡ unserved_at n d z
+  pub discharge : (k : ℕ) → k < device_count n.shape → discharge_in outcome k ≡ d.discharge k
+  pub charge : (k : ℕ) → k < device_count n.shape → charge_in outcome k ≡ d.charge k
+
+-- an outcome is best where its unserved load, discharge and charge are those of a best dispatch
+abbrev pub IsBestOutcome : NetworkParts → HourOutcome → Type 0
+IsBestOutcome n outcome = (d : Dispatch) × IsBest n d × AreListsOf n d outcome
