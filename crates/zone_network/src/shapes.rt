@@ -43,8 +43,8 @@ impl Shape {
         })
     }
 
-    /// The same shape once more.
-    pub(crate) fn copy(&self, alloc: Global) -> Result<Shape, OutOfMemory>
+    /// The same shape once more, in memory of its own.
+    pub fn copy(&self, alloc: Global) -> Result<Shape, OutOfMemory>
         ensures { IfOk result (λ shape. shape ≡ self.now) }
     {
         Shape::new(alloc, self.zones, &self.links, &self.devices)

@@ -1,0 +1,131 @@
+use Rattle.std.proofs.Common.{◌≡◌, ◌<◌, ◌≤◌, ℕ, length, ap, sym, ◌∙◌, arith, rules, subst, false}
+use Rattle.zone_network.specs.Sums.{inside}
+use Rattle.zone_network.specs.Network.{ShapeParts, NetworkParts, IsShape, from_zone, to_zone, link_at}
+use Rattle.zone_network.specs.declared.links.Link.{Link}
+use Rattle.transfer_flow.specs.Masks.{AddsNumber}
+use Rattle.transfer_flow.specs.Flow.{FlowParts}
+use Rattle.transfer_flow.specs.Reach.{room_ahead, room_back}
+use Rattle.transfer_flow.specs.Draw.{IsDry, Draws}
+use Rattle.transfer_flow.proofs.DrawLemmas.{draws-spare, draws-more, draws-ahead, draws-back, draws-still, entered-ahead, entered-back}
+use Rattle.transfer_flow.proofs.flows.Flow.+draws.Goals as goal
+
+pub draw-loop-link-init : goal.draw-loop-link-init
+draw-loop-link-init t c =
+    draws-spare c.args.net.now c.args.self.now c.take_spare-drawn.new.self c.args.zone c.args.seen.now c.args.most
+    c.take_spare-drawn.result c.requires.can
+    (omega (arith, c.take_spare-drawn.ensures.valid.spares, ap (λ (s : ShapeParts). s.zones) c.requires.can.shape))
+    c.take_spare-drawn.ensures.given c.take_spare-drawn.ensures.after
+
+pub draw-loop-link-preserved : goal.draw-loop-link-preserved
+draw-loop-link-preserved t c =
+    draws-more c.args.net.now c.args.self.now c.loop-link.self c.draw_along-drawn.new.self c.args.zone c.args.seen.now
+    c.loop-link.seen c.draw_along-drawn.new.seen c.args.most c.loop-link.drawn c.draw_along-drawn.result c.loop-link.link
+    c.loop-link.invariant c.draw_along-drawn.ensures.draws c.draw_along-drawn.ensures.entered
+
+pub draw_ahead-returns-then-drawn-gt0-clause-draws : goal.draw_ahead-returns-then-drawn-gt0-clause-draws
+draw_ahead-returns-then-drawn-gt0-clause-draws t c =
+    let valid : IsShape c.args.net.now.shape = c.link-from.ensures.valid.shape in
+    let far : c.link-from.result.from ≡ from_zone c.args.net.now.shape c.args.link =
+    ap (λ (l : Link). l.from) c.link-from.ensures.value in
+    let adds : AddsNumber c.args.seen.now (from_zone c.args.net.now.shape c.args.link) c.with_zone.result =
+    subst (λ (z : ℕ). AddsNumber c.args.seen.now z c.with_zone.result) far c.with_zone.ensures in
+    let draws : Draws c.args.net.now c.args.self.now c.draw-drawn.new.self (from_zone c.args.net.now.shape c.args.link)
+    c.with_zone.result c.draw-drawn.new.seen c.min.result c.draw-drawn.result =
+    subst
+    (λ (z : ℕ). Draws c.args.net.now c.args.self.now c.draw-drawn.new.self z c.with_zone.result c.draw-drawn.new.seen c.min.result c.draw-drawn.result)
+    far c.draw-drawn.ensures.draws in
+    let unseen : inside c.args.seen.now (from_zone c.args.net.now.shape c.args.link) ≡ false =
+    ap (inside c.args.seen.now) (sym far) ∙ sym c.is_inside.ensures ∙ c.if-is_inside.false in
+    draws-ahead c.args.net.now c.args.self.now c.draw-drawn.new.self c.raise.new.self c.args.link c.args.seen.now
+    c.with_zone.result c.draw-drawn.new.seen c.args.most c.min.result c.draw-drawn.result valid c.requires.link
+    c.requires.can unseen adds (omega (arith, c.min.ensures)) (omega (arith, c.min.ensures, c.room_ahead-room.ensures.value))
+    c.if-drawn-gt0.true draws c.raise.ensures
+
+pub draw_ahead-returns-else-drawn-gt0-clause-draws : goal.draw_ahead-returns-else-drawn-gt0-clause-draws
+draw_ahead-returns-else-drawn-gt0-clause-draws t c =
+    let valid : IsShape c.args.net.now.shape = c.link-from.ensures.valid.shape in
+    let far : c.link-from.result.from ≡ from_zone c.args.net.now.shape c.args.link =
+    ap (λ (l : Link). l.from) c.link-from.ensures.value in
+    let adds : AddsNumber c.args.seen.now (from_zone c.args.net.now.shape c.args.link) c.with_zone.result =
+    subst (λ (z : ℕ). AddsNumber c.args.seen.now z c.with_zone.result) far c.with_zone.ensures in
+    let draws : Draws c.args.net.now c.args.self.now c.draw-drawn.new.self (from_zone c.args.net.now.shape c.args.link)
+    c.with_zone.result c.draw-drawn.new.seen c.min.result c.draw-drawn.result =
+    subst
+    (λ (z : ℕ). Draws c.args.net.now c.args.self.now c.draw-drawn.new.self z c.with_zone.result c.draw-drawn.new.seen c.min.result c.draw-drawn.result)
+    far c.draw-drawn.ensures.draws in
+    let own : c.draw-drawn.result ≡ 0 → IsDry c.args.net.now c.args.self.now c.draw-drawn.new.seen (from_zone c.args.net.now.shape c.args.link) =
+    subst (λ (z : ℕ). c.draw-drawn.result ≡ 0 → IsDry c.args.net.now c.args.self.now c.draw-drawn.new.seen z) far
+    c.draw-drawn.ensures.own in
+    draws-still c.args.net.now c.args.self.now c.draw-drawn.new.self (to_zone c.args.net.now.shape c.args.link)
+    (from_zone c.args.net.now.shape c.args.link) c.args.seen.now c.with_zone.result c.draw-drawn.new.seen c.args.most
+    c.min.result c.draw-drawn.result c.requires.can adds draws own (omega (arith, c.if-drawn-gt0.false))
+
+pub draw_ahead-returns-else-drawn-gt0-clause-entered : goal.draw_ahead-returns-else-drawn-gt0-clause-entered
+draw_ahead-returns-else-drawn-gt0-clause-entered t c =
+    let valid : IsShape c.args.net.now.shape = c.link-from.ensures.valid.shape in
+    let far : c.link-from.result.from ≡ from_zone c.args.net.now.shape c.args.link =
+    ap (λ (l : Link). l.from) c.link-from.ensures.value in
+    let adds : AddsNumber c.args.seen.now (from_zone c.args.net.now.shape c.args.link) c.with_zone.result =
+    subst (λ (z : ℕ). AddsNumber c.args.seen.now z c.with_zone.result) far c.with_zone.ensures in
+    let draws : Draws c.args.net.now c.args.self.now c.draw-drawn.new.self (from_zone c.args.net.now.shape c.args.link)
+    c.with_zone.result c.draw-drawn.new.seen c.min.result c.draw-drawn.result =
+    subst
+    (λ (z : ℕ). Draws c.args.net.now c.args.self.now c.draw-drawn.new.self z c.with_zone.result c.draw-drawn.new.seen c.min.result c.draw-drawn.result)
+    far c.draw-drawn.ensures.draws in
+    λ nothing.
+    entered-ahead c.args.net.now c.args.self.now c.draw-drawn.new.self c.args.link c.args.seen.now c.with_zone.result
+    c.draw-drawn.new.seen c.min.result c.draw-drawn.result valid c.requires.link adds draws
+
+pub draw_back-returns-then-drawn-gt0-clause-draws : goal.draw_back-returns-then-drawn-gt0-clause-draws
+draw_back-returns-then-drawn-gt0-clause-draws t c =
+    let valid : IsShape c.args.net.now.shape = c.link-to.ensures.valid.shape in
+    let far : c.link-to.result.to ≡ to_zone c.args.net.now.shape c.args.link =
+    ap (λ (l : Link). l.to) c.link-to.ensures.value in
+    let adds : AddsNumber c.args.seen.now (to_zone c.args.net.now.shape c.args.link) c.with_zone.result =
+    subst (λ (z : ℕ). AddsNumber c.args.seen.now z c.with_zone.result) far c.with_zone.ensures in
+    let draws : Draws c.args.net.now c.args.self.now c.draw-drawn.new.self (to_zone c.args.net.now.shape c.args.link)
+    c.with_zone.result c.draw-drawn.new.seen c.min.result c.draw-drawn.result =
+    subst
+    (λ (z : ℕ). Draws c.args.net.now c.args.self.now c.draw-drawn.new.self z c.with_zone.result c.draw-drawn.new.seen c.min.result c.draw-drawn.result)
+    far c.draw-drawn.ensures.draws in
+    let unseen : inside c.args.seen.now (to_zone c.args.net.now.shape c.args.link) ≡ false =
+    ap (inside c.args.seen.now) (sym far) ∙ sym c.is_inside.ensures ∙ c.if-is_inside.false in
+    draws-back c.args.net.now c.args.self.now c.draw-drawn.new.self c.lower.new.self c.args.link c.args.seen.now
+    c.with_zone.result c.draw-drawn.new.seen c.args.most c.min.result c.draw-drawn.result valid c.requires.link
+    c.requires.can unseen adds (omega (arith, c.min.ensures)) (omega (arith, c.min.ensures, c.room_back-room.ensures.value))
+    c.if-drawn-gt0.true draws c.lower.ensures
+
+pub draw_back-returns-else-drawn-gt0-clause-draws : goal.draw_back-returns-else-drawn-gt0-clause-draws
+draw_back-returns-else-drawn-gt0-clause-draws t c =
+    let valid : IsShape c.args.net.now.shape = c.link-to.ensures.valid.shape in
+    let far : c.link-to.result.to ≡ to_zone c.args.net.now.shape c.args.link =
+    ap (λ (l : Link). l.to) c.link-to.ensures.value in
+    let adds : AddsNumber c.args.seen.now (to_zone c.args.net.now.shape c.args.link) c.with_zone.result =
+    subst (λ (z : ℕ). AddsNumber c.args.seen.now z c.with_zone.result) far c.with_zone.ensures in
+    let draws : Draws c.args.net.now c.args.self.now c.draw-drawn.new.self (to_zone c.args.net.now.shape c.args.link)
+    c.with_zone.result c.draw-drawn.new.seen c.min.result c.draw-drawn.result =
+    subst
+    (λ (z : ℕ). Draws c.args.net.now c.args.self.now c.draw-drawn.new.self z c.with_zone.result c.draw-drawn.new.seen c.min.result c.draw-drawn.result)
+    far c.draw-drawn.ensures.draws in
+    let own : c.draw-drawn.result ≡ 0 → IsDry c.args.net.now c.args.self.now c.draw-drawn.new.seen (to_zone c.args.net.now.shape c.args.link) =
+    subst (λ (z : ℕ). c.draw-drawn.result ≡ 0 → IsDry c.args.net.now c.args.self.now c.draw-drawn.new.seen z) far
+    c.draw-drawn.ensures.own in
+    draws-still c.args.net.now c.args.self.now c.draw-drawn.new.self (from_zone c.args.net.now.shape c.args.link)
+    (to_zone c.args.net.now.shape c.args.link) c.args.seen.now c.with_zone.result c.draw-drawn.new.seen c.args.most
+    c.min.result c.draw-drawn.result c.requires.can adds draws own (omega (arith, c.if-drawn-gt0.false))
+
+pub draw_back-returns-else-drawn-gt0-clause-entered : goal.draw_back-returns-else-drawn-gt0-clause-entered
+draw_back-returns-else-drawn-gt0-clause-entered t c =
+    let valid : IsShape c.args.net.now.shape = c.link-to.ensures.valid.shape in
+    let far : c.link-to.result.to ≡ to_zone c.args.net.now.shape c.args.link =
+    ap (λ (l : Link). l.to) c.link-to.ensures.value in
+    let adds : AddsNumber c.args.seen.now (to_zone c.args.net.now.shape c.args.link) c.with_zone.result =
+    subst (λ (z : ℕ). AddsNumber c.args.seen.now z c.with_zone.result) far c.with_zone.ensures in
+    let draws : Draws c.args.net.now c.args.self.now c.draw-drawn.new.self (to_zone c.args.net.now.shape c.args.link)
+    c.with_zone.result c.draw-drawn.new.seen c.min.result c.draw-drawn.result =
+    subst
+    (λ (z : ℕ). Draws c.args.net.now c.args.self.now c.draw-drawn.new.self z c.with_zone.result c.draw-drawn.new.seen c.min.result c.draw-drawn.result)
+    far c.draw-drawn.ensures.draws in
+    λ nothing.
+    entered-back c.args.net.now c.args.self.now c.draw-drawn.new.self c.args.link c.args.seen.now c.with_zone.result
+    c.draw-drawn.new.seen c.min.result c.draw-drawn.result valid c.requires.link adds draws

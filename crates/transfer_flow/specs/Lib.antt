@@ -1,0 +1,5 @@
+pub mod Masks
+pub mod Flow
+pub mod Reach
+pub mod Draw
+pub mod Spread

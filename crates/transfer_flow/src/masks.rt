@@ -1,0 +1,21 @@
+ghost use Rattle.std.specs.Prelude.{◌≡◌, ◌<◌};
+ghost use Rattle.zone_network.specs.Sums.{inside};
+ghost use Rattle.transfer_flow.specs.Masks.{AddsNumber};
+
+/// Whether a zone is in a mask.
+#[inline]
+pub fn is_inside(mask: u32, zone: u8) -> bool
+    requires { zone < 32 }
+    ensures { result ≡ inside mask zone }
+{
+    (mask >> zone) & 1 == 1
+}
+
+/// The mask with this zone too.
+#[inline]
+pub fn with_zone(mask: u32, zone: u8) -> u32
+    requires { zone < 32 }
+    ensures { AddsNumber mask zone result }
+{
+    mask | (1 << zone)
+}
