@@ -1,3 +1,4 @@
 pub mod MaskLemmas
 pub mod MoveLemmas
 pub mod DrawLemmas
+pub mod SpreadLemmas

@@ -1,8 +1,8 @@
-use Rattle.std.proofs.Common.{◌≡◌, ◌≢◌, ℕ, ◌+◌, ◌*◌, ◌%◌, ◌<◌, ◌≤◌, ◌^◌, ◌==◌, ◌⊎◌, inl, inr, Bool, true, false, refl, ap, sym, ◌∙◌, subst, arith}
+use Rattle.std.proofs.Common.{◌≡◌, ℕ, ◌*◌, ◌%◌, ◌<◌, ◌^◌, ◌==◌, inl, inr, true, false, ap, sym, ◌∙◌, subst, arith}
 use Rattle.std.specs.Prelude.{bit_or}
 use Rattle.std.specs.Int.{bit_at}
 use Rattle.std.proofs.lemmas.Nat.{le_or_l, or_lt}
-use Rattle.std.proofs.lemmas.Nat.Bits.{bit_at-zero, bit_at_set_same, bit_at_set_other, bit_at_above}
+use Rattle.std.proofs.lemmas.Nat.Bits.{bit_at-zero, bit_at_set_same, bit_at_set_other}
 use Rattle.std.proofs.lemmas.Bool.{eq-eqb, cases_lt, false≢true}
 use Rattle.std.proofs.Math.Pow.{pow-lt}
 use mir.Syntax.{w32}
@@ -11,15 +11,6 @@ use Rattle.transfer_flow.specs.Masks.{AddsNumber}
 
 pub inside_zero : (i : ℕ) → inside 0 i ≡ false
 inside_zero i = ap (λ (b : ℕ). b == 1) (bit_at-zero i)
-
--- a mask below 2 ^ count has numbers below count alone
-pub inside-lt : (mask count i : ℕ) → mask < 2 ^ count → inside mask i ≡ true → i < count
-inside-lt mask count i among holds =
-    elim (cases_lt i count) [
-      | inl below ↦ below
-      | inr above ↦
-          absurd (false≢true (sym (ap (λ (b : ℕ). b == 1) (bit_at_above mask count i among above)) ∙ holds))
-    ]
 
 -- what the code computes
 pub adds_number : (mask number : ℕ) → number < 32 → AddsNumber mask number (bit_or mask (1 * 2 ^ number % 2 ^ 32))

@@ -1,10 +1,9 @@
-use Rattle.std.proofs.Common.{◌≡◌, ◌≢◌, ℕ, ℤ, pos, negsuc, suc, ◌+◌, ◌-◌, ◌<◌, ◌≤◌, ◌==◌, ◌⊎◌, inl, inr, Bool, true, false, length, List, get_or, refl, ap, sym, ◌∙◌, arith, subst}
+use Rattle.std.proofs.Common.{◌≡◌, ◌≢◌, ℕ, ℤ, pos, negsuc, ◌+◌, ◌-◌, ◌<◌, ◌≤◌, ◌==◌, ◌⊎◌, inl, inr, true, false, length, List, get_or, refl, ap, sym, arith, subst}
 use Rattle.std.proofs.lemmas.List.{get_or-set_same, get_or-set_other}
 use Rattle.std.proofs.lemmas.Bool.{eq-eqb, ne_eqb, cases_eq}
-use Rattle.std.specs.Prelude.{slice_set, min}
-use Rattle.zone_network.specs.Sums.{NumberSet, sum_where}
+use Rattle.std.specs.Prelude.{slice_set}
 use Rattle.zone_network.specs.Network.{ShapeParts, NetworkParts, IsShape, IsLinkAmong, link_count, from_zone, to_zone, ahead, back, inflow, outflow, forward_at, backward_at}
-use Rattle.zone_network.proofs.SumLemmas.{sum_where-changed, sum_where-outside, sum_where-same}
+use Rattle.zone_network.proofs.SumLemmas.{sum_where-changed, sum_where-outside}
 use Rattle.zone_network.proofs.FlowLemmas.{link_among}
 use Rattle.transfer_flow.specs.Flow.{FlowParts, flow_at, spare_at, IsWithinLimits, Moves}
 use Rattle.transfer_flow.specs.Draw.{Raises, Lowers}

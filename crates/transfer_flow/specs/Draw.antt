@@ -1,6 +1,6 @@
 use Rattle.std.specs.Prelude.{◌≡◌, ◌≢◌, ℕ, ◌+◌, ◌-◌, ◌<◌, ◌≤◌, ◌^◌, ◌⊎◌, IsTrue}
 use Rattle.zone_network.specs.Sums.{inside}
-use Rattle.zone_network.specs.Network.{ShapeParts, NetworkParts, link_count, from_zone, to_zone, ahead, back}
+use Rattle.zone_network.specs.Network.{NetworkParts, link_count, from_zone, to_zone, ahead, back}
 use Rattle.transfer_flow.specs.Flow.{FlowParts, flow_at, spare_at, IsWithinLimits, Moves}
 use Rattle.transfer_flow.specs.Reach.{room_ahead, room_back}
 

@@ -1,4 +1,4 @@
-use Rattle.std.specs.Prelude.{◌≡◌, ◌≢◌, ℕ, ℤ, pos, ◌+◌, ◌-◌, ◌<◌, ◌≤◌, List, length, replicate, slice_index, slice_index_or}
+use Rattle.std.specs.Prelude.{◌≡◌, ◌≢◌, ℕ, ℤ, pos, ◌+◌, ◌<◌, ◌≤◌, List, length, replicate, slice_index, slice_index_or}
 use Rattle.zone_network.specs.Network.{ShapeParts, NetworkParts, IsShape, link_count, ahead, back, inflow, outflow, forward_at, backward_at}
 
 -- a signed flow for each link, forward being positive, and for each zone an amount that it still has to give

@@ -1,6 +1,6 @@
 ghost use Rattle.std.specs.Prelude.{◌≡◌, ◌<◌};
 ghost use Rattle.zone_network.specs.Sums.{inside};
-ghost use Rattle.transfer_flow.specs.Masks.{AddsNumber};
+ghost use Rattle.transfer_flow.specs.Masks.{AddsNumber, Joins};
 
 /// Whether a zone is in a mask.
 #[inline]
@@ -18,4 +18,18 @@ pub fn with_zone(mask: u32, zone: u8) -> u32
     ensures { AddsNumber mask zone result }
 {
     mask | (1 << zone)
+}
+
+/// The mask, and a zone more where there is room and the member is in it.
+#[inline]
+pub fn joined(mask: u32, has_room: bool, member: u8, more: u8) -> u32
+    requires member { member < 32 }
+    requires more { more < 32 }
+    ensures { Joins mask has_room member more result }
+{
+    if has_room && is_inside(mask, member) {
+        with_zone(mask, more)
+    } else {
+        mask
+    }
 }

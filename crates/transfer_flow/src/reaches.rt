@@ -5,7 +5,7 @@ ghost use Rattle.transfer_flow.specs.Reach.{IsReachTo, IsReachFrom};
 ghost use Rattle.transfer_flow.specs.Spread.{SpreadsBefore, SpreadsAfter};
 
 use crate::flows::Flow;
-use crate::masks::{is_inside, with_zone};
+use crate::masks::{joined, with_zone};
 use zone_network::Network;
 
 impl Flow {
@@ -54,12 +54,8 @@ impl Flow {
         let mut wider = mask;
         for link in 0..net.links() {
             let ends = net.link(link);
-            if is_inside(wider, ends.to) && self.room_ahead(net, link) > 0 {
-                wider = with_zone(wider, ends.from);
-            }
-            if is_inside(wider, ends.from) && self.room_back(net, link) > 0 {
-                wider = with_zone(wider, ends.to);
-            }
+            wider = joined(wider, self.room_ahead(net, link) > 0, ends.to, ends.from);
+            wider = joined(wider, self.room_back(net, link) > 0, ends.from, ends.to);
         }
         wider
     }
@@ -74,12 +70,8 @@ impl Flow {
         let mut wider = mask;
         for link in 0..net.links() {
             let ends = net.link(link);
-            if is_inside(wider, ends.from) && self.room_ahead(net, link) > 0 {
-                wider = with_zone(wider, ends.to);
-            }
-            if is_inside(wider, ends.to) && self.room_back(net, link) > 0 {
-                wider = with_zone(wider, ends.from);
-            }
+            wider = joined(wider, self.room_ahead(net, link) > 0, ends.from, ends.to);
+            wider = joined(wider, self.room_back(net, link) > 0, ends.to, ends.from);
         }
         wider
     }

@@ -1,10 +1,8 @@
-use Rattle.std.proofs.Common.{◌≡◌, ◌<◌, ◌≤◌, ℕ, length, ap, sym, ◌∙◌, arith, rules, subst, false}
+use Rattle.std.proofs.Common.{◌≡◌, ℕ, ap, sym, ◌∙◌, arith, subst, false}
 use Rattle.zone_network.specs.Sums.{inside}
-use Rattle.zone_network.specs.Network.{ShapeParts, NetworkParts, IsShape, from_zone, to_zone, link_at}
+use Rattle.zone_network.specs.Network.{ShapeParts, IsShape, from_zone, to_zone}
 use Rattle.zone_network.specs.declared.links.Link.{Link}
 use Rattle.transfer_flow.specs.Masks.{AddsNumber}
-use Rattle.transfer_flow.specs.Flow.{FlowParts}
-use Rattle.transfer_flow.specs.Reach.{room_ahead, room_back}
 use Rattle.transfer_flow.specs.Draw.{IsDry, Draws}
 use Rattle.transfer_flow.proofs.DrawLemmas.{draws-spare, draws-more, draws-ahead, draws-back, draws-still, entered-ahead, entered-back}
 use Rattle.transfer_flow.proofs.flows.Flow.+draws.Goals as goal

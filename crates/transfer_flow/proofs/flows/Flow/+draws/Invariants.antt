@@ -1,5 +1,4 @@
-use Rattle.std.proofs.Common.{ℕ, ◌+◌, ◌-◌, ◌*◌, ◌^◌, ◌≡◌, ◌≤◌, ◌<◌}
-use Rattle.transfer_flow.specs.Draw.{IsEntered}
+use Rattle.std.proofs.Common.{◌+◌, ◌-◌, ◌*◌, ◌^◌}
 use Rattle.transfer_flow.proofs.DrawLemmas.{DrawsSoFar}
 use Rattle.transfer_flow.proofs.flows.Flow.+draws.Given as goal
 

@@ -1,4 +1,4 @@
-use Rattle.std.proofs.Common.{ℕ, ◌-◌, ◌≡◌, ◌≤◌}
+use Rattle.std.proofs.Common.{◌-◌, ◌≡◌, ◌≤◌}
 use Rattle.transfer_flow.specs.Flow.{IsWithinLimits, Moves}
 use Rattle.transfer_flow.proofs.flows.Flow.pull.Given as goal
 
