@@ -1,4 +1,4 @@
-use Rattle.std.specs.Prelude.{◌≡◌, ◌≢◌, ℕ, ℤ, pos, ◌+◌, ◌-◌, ◌<◌, ◌≤◌, ◌^◌, ◌&&◌, IsTrue, All, length, slice_index, slice_index_or, nat_lt, nat_le, if◌then◌else◌}
+use Rattle.std.specs.Prelude.{◌≡◌, ◌≢◌, ℕ, ℤ, pos, ◌+◌, ◌-◌, ◌<◌, ◌≤◌, ◌^◌, ◌&&◌, IsTrue, List, All, length, slice_index, slice_index_or, nat_lt, nat_le, if◌then◌else◌}
 use Rattle.zone_network.specs.Sums.{inside}
 use Rattle.zone_network.specs.Network.{NetworkParts, into, over_zones, over_devices, zone_of_device, link_count, device_count, load_at, discharge_cap_at, charge_cap_at}
 use Rattle.zone_network.specs.Dispatch.{Dispatch, IsFeasible, IsBest, not_after, unserved_at}
@@ -28,16 +28,23 @@ discharge_in outcome = slice_index outcome.discharge
 abbrev pub charge_in : HourOutcome → ℕ → ℕ
 charge_in outcome = slice_index outcome.charge
 
--- what is served of a zone's load
+-- what is served of a zone's load, by what isn't
+abbrev pub served_but : NetworkParts → List ℕ → ℕ → ℕ
+served_but n unserved z = load_at n z - slice_index unserved z
+
 abbrev pub served_in : NetworkParts → HourOutcome → ℕ → ℕ
-served_in n outcome z = load_at n z - unserved_in outcome z
+served_in n outcome = served_but n outcome.unserved
+
+-- the flow of a link in a list of flows
+abbrev pub flow_at : List ℤ → ℕ → ℤ
+flow_at flows l = slice_index_or flows l (pos 0)
 
 -- what the chain says of a zone and of a link, in MW
 abbrev pub generation_in : Chain → ℕ → ℕ
 generation_in chain = slice_index chain.generation
 
 abbrev pub flow_in : Chain → ℕ → ℤ
-flow_in chain l = slice_index_or chain.flows l (pos 0)
+flow_in chain = flow_at chain.flows
 
 -- the mask that the chain has for a component: one for each zone, then one for each device's discharge, then one
 -- for each device's charge

@@ -5,11 +5,17 @@
 //! isn't trusted: a yes is proved to imply the claim.
 #![tactic(auto)]
 
+mod balances;
+mod certificates;
 mod chains;
 mod cuts;
+mod feasible;
 mod flow_lists;
+mod outcome_sums;
+mod rows;
 mod sums;
 
+pub use certificates::check_chain;
 pub use chains::Chain;
 pub use cuts::check_cut;
 pub use flow_lists::Flows;

@@ -1,0 +1,11 @@
+use Rattle.std.proofs.Common.{◌≡◌, ◌*◌, ◌≤◌, ◌&&◌}
+use Rattle.zone_network.specs.Sums.{inside, sum_where}
+use Rattle.zone_network.specs.Dispatch.{not_after}
+use Rattle.cut_certificate.specs.Chain.{served_but}
+use Rattle.cut_certificate.proofs.outcome_sums.served_not_after.Given as goal
+
+abbrev pub invariant-loop-z : goal.invariant-loop-z
+invariant-loop-z l = record {
+  value : l.sum ≡ sum_where (λ j. inside l.mask j && not_after l.net.shape l.last j) (served_but l.net l.unserved) l.z;
+  most : l.sum ≤ 1000000 * l.z;
+}

@@ -1,0 +1,27 @@
+use Rattle.std.specs.Prelude.{◌≡◌, ℕ, ℤ, ◌+◌, ◌≤◌, ◌==◌, List}
+use Rattle.zone_network.specs.Network.{NetworkParts, ahead, back, inflow, outflow, over_devices, supply_at, load_at, forward_at, backward_at, discharge_cap_at, charge_cap_at}
+use Rattle.sample_totals.specs.declared.outcomes.HourOutcome.{HourOutcome}
+use Rattle.cut_certificate.specs.declared.chains.Chain.{Chain}
+use Rattle.cut_certificate.specs.Chain.{unserved_in, discharge_in, charge_in, served_in, generation_in, flow_in, flow_at}
+
+-- what comes in to a zone or is made there goes out or is used there
+abbrev pub IsBalanced : NetworkParts → HourOutcome → Chain → ℕ → Type 0
+IsBalanced n outcome chain z =
+    generation_in chain z + over_devices n.shape (discharge_in outcome) (λ w. w == z) + inflow n.shape (flow_in chain) z
+    ≡ served_in n outcome z + over_devices n.shape (charge_in outcome) (λ w. w == z) + outflow n.shape (flow_in chain) z
+
+-- what feasibility asks of one zone
+pub record IsFeasibleZone (n : NetworkParts) (outcome : HourOutcome) (chain : Chain) (z : ℕ) : Type 0 where
+  pub within : unserved_in outcome z ≤ load_at n z
+  pub generation : generation_in chain z ≤ supply_at n z
+  pub balance : IsBalanced n outcome chain z
+
+-- what it asks of one device
+pub record IsFeasibleDevice (n : NetworkParts) (outcome : HourOutcome) (k : ℕ) : Type 0 where
+  pub discharge : discharge_in outcome k ≤ discharge_cap_at n k
+  pub charge : charge_in outcome k ≤ charge_cap_at n k
+
+-- what it asks of one link
+pub record IsFeasibleLink (n : NetworkParts) (flows : List ℤ) (l : ℕ) : Type 0 where
+  pub forward : ahead (flow_at flows l) ≤ forward_at n l
+  pub backward : back (flow_at flows l) ≤ backward_at n l
