@@ -2,3 +2,4 @@ pub mod MaskLemmas
 pub mod MoveLemmas
 pub mod DrawLemmas
 pub mod SpreadLemmas
+pub mod Laws

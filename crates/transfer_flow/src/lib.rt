@@ -11,3 +11,7 @@ mod reaches;
 mod signed;
 
 pub use flows::Flow;
+
+#[cfg(test)]
+#[tactic(auto, using(crate::proofs::Laws::no_flow_within))]
+mod tests;

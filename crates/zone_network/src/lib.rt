@@ -12,3 +12,6 @@ mod shapes;
 pub use links::Link;
 pub use networks::Network;
 pub use shapes::Shape;
+
+#[cfg(test)]
+mod tests;
