@@ -1,9 +1,10 @@
 use Rattle.std.proofs.Common.{◌≡◌, ◌≢◌, ℕ, ◌+◌, ◌-◌, ◌<◌, ◌≤◌, ◌⊎◌, inl, inr, false, length, List, get_or, refl, ap, sym, ◌∙◌, arith, subst}
-use Rattle.std.specs.Prelude.{slice_set, min, IsTrue}
-use Rattle.std.proofs.lemmas.List.{set-get_or}
+use Rattle.std.specs.Prelude.{slice_set, min, IsTrue, Contains}
+use Rattle.std.proofs.lemmas.List.{set-get_or, get_or_default}
 use Rattle.std.proofs.lemmas.Bool.{cases_eq, false≢true}
 use Rattle.zone_network.specs.Sums.{inside}
-use Rattle.zone_network.specs.Network.{NetworkParts, IsShape, IsLinkAmong, link_count, from_zone, to_zone, link_at}
+use Rattle.zone_network.specs.Network.{NetworkParts, IsShape, IsLinkAmong, link_count, from_zone, to_zone, link_at, links_of}
+use Rattle.zone_network.proofs.LinkLists.{links_of-start, links_of-end}
 use Rattle.zone_network.proofs.FlowLemmas.{link_among}
 use Rattle.transfer_flow.specs.Masks.{AddsNumber}
 use Rattle.transfer_flow.specs.Flow.{FlowParts, flow_at, spare_at, IsWithinLimits, Moves}
@@ -12,11 +13,11 @@ use Rattle.transfer_flow.specs.Draw.{IsEntered, IsDry, CanDraw, Draws, Raises, L
 use Rattle.transfer_flow.proofs.MaskLemmas.{inside_zero}
 use Rattle.transfer_flow.proofs.MoveLemmas.{moves-none, moves-then, moves-raised, moves-lowered, moves-spare, raises-within, lowers-within}
 
--- how far the search of a zone has come: it took the zone's own spare, and went along the links below this one
-pub record DrawsSoFar (n : NetworkParts) (old new : FlowParts) (zone before after asked drawn upto : ℕ) : Type 0 where
+-- how far the search of a zone has come: it took the zone's own spare, and went along the first so many of the links listed
+pub record DrawsSoFar (n : NetworkParts) (old new : FlowParts) (zone before after asked drawn : ℕ) (listed : List ℕ) (upto : ℕ) : Type 0 where
   pub draws : Draws n old new zone before after asked drawn
   pub spare : drawn ≡ 0 → spare_at old zone ≡ 0
-  pub entered : drawn ≡ 0 → (l : ℕ) → l < upto → IsEntered n old after zone l
+  pub entered : drawn ≡ 0 → (k : ℕ) → k < upto → IsEntered n old after zone (get_or listed k 0)
 
 -- a zone that was entered from zones that were seen stays so as more are seen
 entered-grown : (n : NetworkParts) (f : FlowParts) (before after z l : ℕ)
@@ -55,13 +56,13 @@ draws-none n f zone seen asked can =
     }
 
 -- a zone's own spare is taken first
-pub draws-spare : (n : NetworkParts) (old new : FlowParts) (zone seen asked given : ℕ)
+pub draws-spare : (n : NetworkParts) (old new : FlowParts) (zone seen asked given : ℕ) (listed : List ℕ)
     → CanDraw n old zone seen asked
     → zone < length old.spares
     → given ≡ min (spare_at old zone) asked
     → new ≡ record old { spares = slice_set old.spares zone (spare_at old zone - given) }
-    → DrawsSoFar n old new zone seen seen asked given 0
-draws-spare n old new zone seen asked given can among is after =
+    → DrawsSoFar n old new zone seen seen asked given listed 0
+draws-spare n old new zone seen asked given listed can among is after =
     let flows : (l : ℕ) → flow_at new l ≡ flow_at old l = λ l. ap (λ (f : FlowParts). flow_at f l) after in
     let limits : IsWithinLimits n new =
     let P : FlowParts → Type 0 = λ f. IsWithinLimits n f in
@@ -86,7 +87,7 @@ draws-spare n old new zone seen asked given can among is after =
             dry = λ e z h. inl h;
           };
       spare = λ nothing. omega (arith, can.some);
-      entered = λ nothing l below. absurd (omega arith);
+      entered = λ nothing k below. absurd (omega arith);
     }
 
 -- a search of one link after the searches before it
@@ -119,34 +120,57 @@ draws-then n old mid new zone before between after asked first second a b =
           ];
     }
 
-pub draws-more : (n : NetworkParts) (old mid new : FlowParts) (zone before between after asked first second upto : ℕ)
-    → DrawsSoFar n old mid zone before between asked first upto
+pub draws-more : (n : NetworkParts) (old mid new : FlowParts) (zone before between after asked first second : ℕ) (listed : List ℕ) (upto : ℕ)
+    → DrawsSoFar n old mid zone before between asked first listed upto
     → Draws n mid new zone between after (asked - first) second
-    → (second ≡ 0 → IsEntered n mid after zone upto)
-    → DrawsSoFar n old new zone before after asked (first + second) (upto + 1)
-draws-more n old mid new zone before between after asked first second upto a b entered =
+    → (second ≡ 0 → IsEntered n mid after zone (get_or listed upto 0))
+    → DrawsSoFar n old new zone before after asked (first + second) listed (upto + 1)
+draws-more n old mid new zone before between after asked first second listed upto a b entered =
     record {
       draws = draws-then n old mid new zone before between after asked first second a.draws b;
       spare = λ nothing. a.spare (omega arith);
       entered =
-          λ nothing l below.
-          elim (cases_eq l upto) [
+          λ nothing k below.
+          elim (cases_eq k upto) [
             | inl here ↦
-                let at : IsEntered n old after zone upto =
-                subst (λ (f : FlowParts). IsEntered n f after zone upto) (a.draws.still (omega arith)) (entered (omega arith)) in
-                subst (λ (k : ℕ). IsEntered n old after zone k) (sym here) at
-            | inr other ↦ entered-grown n old between after zone l b.grown (a.entered (omega arith) l (omega arith))
+                let at : IsEntered n old after zone (get_or listed upto 0) =
+                subst (λ (f : FlowParts). IsEntered n f after zone (get_or listed upto 0)) (a.draws.still (omega arith)) (entered (omega arith)) in
+                subst (λ (i : ℕ). IsEntered n old after zone (get_or listed i 0)) (sym here) at
+            | inr other ↦
+                entered-grown n old between after zone (get_or listed k 0) b.grown (a.entered (omega arith) k (omega arith))
           ];
     }
 
--- at the last link, or where all is drawn
+-- a link that is listed was searched
+entered-listed : (n : NetworkParts) (old : FlowParts) (zone after : ℕ) (listed : List ℕ) (l : ℕ)
+    → ((k : ℕ) → k < length listed → IsEntered n old after zone (get_or listed k 0))
+    → Contains listed l
+    → IsEntered n old after zone l
+entered-listed n old zone after listed l each (k, below, is) =
+    subst (λ (i : ℕ). IsEntered n old after zone i) (get_or_default listed k 0 l below ∙ is) (each k below)
+
+-- at the zone's last link
 pub draws-own : (n : NetworkParts) (old new : FlowParts) (zone before after asked drawn upto : ℕ)
-    → DrawsSoFar n old new zone before after asked drawn upto
-    → link_count n.shape ≤ upto
+    → DrawsSoFar n old new zone before after asked drawn (links_of n.shape zone) upto
+    → length (links_of n.shape zone) ≤ upto
     → drawn ≡ 0
     → IsDry n old after zone
 draws-own n old new zone before after asked drawn upto h all nothing =
-    record { spare = h.spare nothing; links = λ l below. h.entered nothing l (omega arith) }
+    let each : (k : ℕ) → k < length (links_of n.shape zone) → IsEntered n old after zone (get_or (links_of n.shape zone) k 0) =
+    λ k below. h.entered nothing k (omega arith) in
+    record {
+      spare = h.spare nothing;
+      links =
+          λ l below.
+          record {
+            forward =
+                λ end room.
+                (entered-listed n old zone after (links_of n.shape zone) l each (links_of-end n.shape zone l below end)).forward end room;
+            backward =
+                λ start room.
+                (entered-listed n old zone after (links_of n.shape zone) l each (links_of-start n.shape zone l below start)).backward start room;
+          };
+    }
 
 -- the zone at the far end of a link is marked before it is searched
 pub can-draw_far : (n : NetworkParts) (f : FlowParts) (zone other seen marked asked asked' : ℕ)

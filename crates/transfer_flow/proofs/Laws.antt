@@ -1,8 +1,8 @@
-use Rattle.std.proofs.Common.{◌≡◌, ℕ, ℤ, pos, ◌<◌, ◌≤◌, ◌⊎◌, inl, inr, replicate, get_or, length, refl, ap, sym, ◌∙◌, arith}
+use Rattle.std.proofs.Common.{◌≡◌, ℕ, pos, inl, inr, replicate, ap, arith}
 use Rattle.std.proofs.lemmas.List.{get_or-replicate, get_or_past, length-replicate}
 use Rattle.std.proofs.lemmas.Bool.{cases_lt}
 use Rattle.zone_network.specs.Network.{ShapeParts, NetworkParts, link_count, ahead, back}
-use Rattle.transfer_flow.specs.Flow.{FlowParts, flow_at, no_flow, IsWithinLimits}
+use Rattle.transfer_flow.specs.Flow.{flow_at, no_flow, IsWithinLimits}
 
 -- where nothing flows each link's flow is 0
 pub flow_at_no_flow : (s : ShapeParts) (l : ℕ) → flow_at (no_flow s) l ≡ pos 0

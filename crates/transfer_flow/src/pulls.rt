@@ -45,11 +45,11 @@ impl Flow {
         ensures own { result ≡ 0 → IsDry net.now self.old seen.new zone }
     {
         let mut drawn = self.take_spare(zone, most);
-        for link in 0..net.links() {
+        for link in net.links_of(zone) {
             if drawn == most {
                 break;
             }
-            drawn += self.draw_along(net, zone, link, most - drawn, seen);
+            drawn += self.draw_along(net, zone, *link, most - drawn, seen);
         }
         drawn
     }

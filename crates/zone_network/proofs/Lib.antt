@@ -1,3 +1,4 @@
 pub mod SumLemmas
 pub mod FlowLemmas
 pub mod Worked
+pub mod LinkLists

@@ -1,4 +1,4 @@
-use Rattle.std.proofs.Common.{◌≡◌, ◌≢◌, ℕ, ℤ, pos, [], ◌∷◌, List, get_or, refl, ap}
+use Rattle.std.proofs.Common.{◌≡◌, pos, [], ◌∷◌, get_or, refl}
 use Rattle.zone_network.specs.Sums.{inside, sum_where}
 use Rattle.zone_network.specs.Network.{NetworkParts, into}
 use Rattle.zone_network.specs.Dispatch.{Dispatch, compared_list, total_unserved}

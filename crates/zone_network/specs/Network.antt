@@ -1,4 +1,5 @@
-use Rattle.std.specs.Prelude.{◌≡◌, ◌≢◌, ℕ, ℤ, pos, negsuc, ◌+◌, ◌<◌, ◌≤◌, ◌==◌, ◌&&◌, not, List, length, replicate, slice_index, slice_index_or, All}
+use Rattle.std.specs.Prelude.{◌≡◌, ◌≢◌, ℕ, ℤ, pos, negsuc, ◌+◌, ◌<◌, ◌≤◌, ◌==◌, ◌&&◌, ◌||◌, not, List, length, replicate, slice_index, slice_index_or, All, filter}
+use Rattle.std.specs.List.{range_with_len}
 use Rattle.zone_network.specs.declared.links.Link.{Link}
 use Rattle.zone_network.specs.Sums.{NumberSet, sum_where}
 
@@ -69,6 +70,18 @@ from_zone s l = (link_at s l).from
 
 abbrev pub to_zone : ShapeParts → ℕ → ℕ
 to_zone s l = (link_at s l).to
+
+-- whether a link, of those with these ends, starts or ends in a zone
+abbrev pub touches_at : List Link → ℕ → NumberSet
+touches_at ends zone =
+    λ l. ((slice_index_or ends l no_link).from == zone) || ((slice_index_or ends l no_link).to == zone)
+
+-- the links that start or end in a zone, ascending
+abbrev pub touching : List Link → ℕ → List ℕ
+touching ends zone = filter (touches_at ends zone) (range_with_len 0 (length ends))
+
+abbrev pub links_of : ShapeParts → ℕ → List ℕ
+links_of s zone = touching s.ends zone
 
 -- the zone of a device
 abbrev pub zone_of_device : ShapeParts → ℕ → ℕ

@@ -1,5 +1,5 @@
 ghost use Rattle.std.specs.Prelude.{◌≡◌, ◌<◌, ◌≤◌, length, IfOk, slice_set};
-ghost use Rattle.zone_network.specs.Network.{ShapeParts, NetworkParts, IsLinkAmong, IsNetwork, empty_network, link_count, device_count, link_at, zone_of_device, supply_at, load_at, forward_at, backward_at, discharge_cap_at, charge_cap_at};
+ghost use Rattle.zone_network.specs.Network.{ShapeParts, NetworkParts, IsLinkAmong, IsNetwork, empty_network, link_count, device_count, link_at, links_of, zone_of_device, supply_at, load_at, forward_at, backward_at, discharge_cap_at, charge_cap_at};
 
 use crate::links::Link;
 use crate::shapes::Shape;
@@ -130,6 +130,16 @@ impl Network {
         ensures valid { IsNetwork self.now }
     {
         self.shape.link(link)
+    }
+
+    /// The links that start or end in a zone, ascending.
+    #[inline]
+    pub fn links_of(&self, zone: u8) -> &[u32]
+        requires { zone < self.now.shape.zones }
+        ensures value { result.now ≡ links_of self.now.shape zone }
+        ensures valid { IsNetwork self.now }
+    {
+        self.shape.links_of(zone)
     }
 
     /// The zone of a device.

@@ -1,7 +1,8 @@
-ghost use Rattle.std.specs.Prelude.{◌≡◌, ◌<◌, ◌≤◌, length, All, IfOk};
-ghost use Rattle.zone_network.specs.Network.{ShapeParts, IsLinkAmong, IsShape, link_count, device_count, link_at, zone_of_device};
+ghost use Rattle.std.specs.Prelude.{◌≡◌, ◌<◌, ◌≤◌, length, All, IfOk, map};
+ghost use Rattle.std.specs.List.{range_with_len};
+ghost use Rattle.zone_network.specs.Network.{ShapeParts, IsLinkAmong, IsShape, link_count, device_count, link_at, links_of, touching, zone_of_device};
 
-use crate::links::Link;
+use crate::links::{Link, LinkList};
 use ra_base::OutOfMemory;
 use std::alloc::Global;
 use std::marker::Model;
@@ -15,6 +16,8 @@ pub struct Shape {
     zones: u8,
     links: Vec<Link>,
     devices: Vec<u8>,
+    // By zone, so that a search from a zone looks at no other links.
+    zone_links: Vec<LinkList>,
 }
 
 impl Model for Shape {
@@ -22,7 +25,7 @@ impl Model for Shape {
 
     ghost view = { λ s. record { zones = s.zones; ends = s.links.items; device_zones = s.devices.items } };
 
-    ghost invariant = { λ s. IsShape (record { zones = s.zones; ends = s.links.items; device_zones = s.devices.items }) };
+    ghost invariant = { λ s. IsShape (record { zones = s.zones; ends = s.links.items; device_zones = s.devices.items }) × (s.zone_links.items ≡ map (touching s.links.items) (range_with_len 0 s.zones)) };
 }
 
 impl Shape {
@@ -40,6 +43,7 @@ impl Shape {
             zones,
             links: Vec::from_slice(alloc, links)?,
             devices: Vec::from_slice(alloc, devices)?,
+            zone_links: by_zone(alloc, zones, links)?,
         })
     }
 
@@ -88,6 +92,16 @@ impl Shape {
         self.links[link as usize]
     }
 
+    /// The links that start or end in a zone, ascending.
+    #[inline]
+    pub fn links_of(&self, zone: u8) -> &[u32]
+        requires { zone < self.now.zones }
+        ensures value { result.now ≡ links_of self.now zone }
+        ensures valid { IsShape self.now }
+    {
+        self.zone_links[zone as usize].links()
+    }
+
     /// The zone of a device.
     #[inline]
     pub fn device_zone(&self, device: u32) -> u8
@@ -98,4 +112,16 @@ impl Shape {
     {
         self.devices[device as usize]
     }
+}
+
+/// For each zone the links that start or end there.
+fn by_zone(alloc: Global, zones: u8, links: &[Link]) -> Result<Vec<LinkList>, OutOfMemory>
+    requires { length links.now ≤ 128 }
+    ensures { IfOk result (λ lists. lists.items ≡ map (touching links.now) (range_with_len 0 zones)) }
+{
+    let mut lists = Vec::new(alloc);
+    for zone in 0..zones {
+        lists.push(LinkList::of(alloc, links, zone)?)?;
+    }
+    Ok(lists)
 }

@@ -1,4 +1,5 @@
 use Rattle.std.proofs.Common.{◌+◌, ◌-◌, ◌*◌, ◌^◌}
+use Rattle.zone_network.specs.Network.{links_of}
 use Rattle.transfer_flow.proofs.DrawLemmas.{DrawsSoFar}
 use Rattle.transfer_flow.proofs.flows.Flow.+draws.Given as goal
 
@@ -16,4 +17,4 @@ abbrev pub decreases-draw_back : goal.decreases-draw_back
 decreases-draw_back l = 3 * (2 ^ 32 - l.seen.now)
 
 abbrev pub invariant-draw-loop-link : goal.invariant-draw-loop-link
-invariant-draw-loop-link l = DrawsSoFar l.net l.fn.self l.self l.zone l.fn.seen l.seen l.most l.drawn l.link
+invariant-draw-loop-link l = DrawsSoFar l.net l.fn.self l.self l.zone l.fn.seen l.seen l.most l.drawn (links_of l.net.shape l.zone) l.link-index
