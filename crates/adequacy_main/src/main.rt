@@ -6,10 +6,9 @@ mod std_sink;
 
 use folder_shelf::FolderShelf;
 use ra_base::{Sink, Status};
-use std::env;
-use std::io;
 use std::process::ExitCode;
 use std::rt::Env;
+use std::{env, io};
 use std_sink::StdSink;
 
 /// Why there is no list of words.
