@@ -1,11 +1,12 @@
-use Rattle.std.proofs.Common.{◌≡◌, ℕ, zero, suc, add-one, ◌+◌, ◌<◌, inl, inr, Bool, true, false, cond, List, [], ◌∷◌, ◌++◌, filter, ◌==◌, ap, sym, ◌∙◌, subst, arith, append-nil}
+use Rattle.std.proofs.Common.{◌≡◌, ℕ, zero, suc, add-one, ◌+◌, ◌<◌, inl, inr, Bool, true, false, cond, List, [], ◌∷◌, ◌++◌, filter, ◌==◌, ap, sym, ◌∙◌, subst, arith, append-nil, map}
 use Rattle.std.specs.Prelude.{All, Contains}
 use Rattle.std.specs.List.{range_with_len}
 use Rattle.std.proofs.lemmas.List.{map-id}
-use Rattle.std.proofs.lemmas.List.FromFn.{filter_of_map_range_with_len_more}
+use Rattle.std.proofs.lemmas.List.FromFn.{map-range_with_len_more, filter_of_map_range_with_len_more}
 use Rattle.std.proofs.lemmas.List.Elements.{All-nil, All-push, All-weaker, Contains-push, Contains-append_left}
 use Rattle.std.proofs.lemmas.Bool.{cond-true, cond-false, cases_Bool, cases_eq, eq-eqb, or_left, or_right}
-use Rattle.zone_network.specs.Network.{ShapeParts, link_count, from_zone, to_zone, touches_at, links_of}
+use Rattle.zone_network.specs.declared.links.Link.{Link}
+use Rattle.zone_network.specs.Network.{ShapeParts, link_count, from_zone, to_zone, touches_at, links_of, touching}
 
 -- a loop's step over the numbers that pass
 pub passing_more : (p : ℕ → Bool) (n : ℕ)
@@ -75,3 +76,13 @@ pub links_of-end : (s : ShapeParts) (zone l : ℕ) → l < link_count s → to_z
 links_of-end s zone l below end =
     passing_there (touches_at s.ends zone) (link_count s) l below
     (or_right (from_zone s l == zone) (to_zone s l == zone) (eq-eqb (to_zone s l) zone end))
+
+-- a loop's step over the zones
+pub touching_pushed : (ends : List Link) (zone : ℕ) (lists : List (List ℕ)) (made : List ℕ)
+    → lists ≡ map (touching ends) (range_with_len 0 zone)
+    → made ≡ touching ends zone
+    → lists ++ made ∷ [] ≡ map (touching ends) (range_with_len 0 (zone + 1))
+touching_pushed ends zone lists made before is =
+    ap (λ (xs : List (List ℕ)). xs ++ made ∷ []) before
+    ∙ ap (λ (x : List ℕ). map (touching ends) (range_with_len 0 zone) ++ x ∷ []) is
+    ∙ sym (map-range_with_len_more (touching ends) 0 zone zone (omega arith))
