@@ -2,3 +2,4 @@ pub mod SumSteps
 pub mod OrderLemmas
 pub mod RowLemmas
 pub mod BestLemmas
+pub mod UniqueLemmas

@@ -50,7 +50,7 @@ range_more a (suc n) =
     let place : a + 1 + n ≡ a + suc n = omega arith in
     ap (λ (xs : List ℕ). a ∷ xs) (range_more (a + 1) n ∙ ap (λ (x : ℕ). range_with_len (a + 1) n ++ x ∷ []) place)
 
-reverse-range : (n : ℕ) → reverse (range_with_len 0 (suc n)) ≡ n ∷ reverse (range_with_len 0 n)
+pub reverse-range : (n : ℕ) → reverse (range_with_len 0 (suc n)) ≡ n ∷ reverse (range_with_len 0 n)
 reverse-range n =
     let place : 0 + n ≡ n = omega arith in
     ap reverse (range_more 0 n)

@@ -139,3 +139,14 @@ pub record AreListsOf (n : NetworkParts) (d : Dispatch) (outcome : HourOutcome) 
 -- an outcome is best where its unserved load, discharge and charge are those of a best dispatch
 abbrev pub IsBestOutcome : NetworkParts → HourOutcome → Type 0
 IsBestOutcome n outcome = (d : Dispatch) × IsBest n d × AreListsOf n d outcome
+
+-- two outcomes have the same unserved load by zone, and the same discharge and charge by device
+pub record HaveSameLists (n : NetworkParts) (outcome other : HourOutcome) : Type 0 where
+  pub unserved : (z : ℕ) → z < n.shape.zones → unserved_in outcome z ≡ unserved_in other z
+  pub discharge : (k : ℕ) → k < device_count n.shape → discharge_in outcome k ≡ discharge_in other k
+  pub charge : (k : ℕ) → k < device_count n.shape → charge_in outcome k ≡ charge_in other k
+
+-- an outcome is the only best one: it is best, and each other that is best has the same lists
+pub record IsOnlyBestOutcome (n : NetworkParts) (outcome : HourOutcome) : Type 0 where
+  pub best : IsBestOutcome n outcome
+  pub only : (other : HourOutcome) → IsBestOutcome n other → HaveSameLists n outcome other

@@ -1,7 +1,7 @@
 ghost use Rattle.std.specs.Prelude.{◌↔◌, IsTrue};
 ghost use Rattle.zone_network.specs.Network.{IsNetwork};
 ghost use Rattle.zone_network.specs.Dispatch.{IsBest};
-ghost use Rattle.cut_certificate.specs.Chain.{Fit, IsFeasibleBy, IsProvedBy, IsBestOutcome, dispatch_of};
+ghost use Rattle.cut_certificate.specs.Chain.{Fit, IsFeasibleBy, IsProvedBy, IsOnlyBestOutcome, dispatch_of};
 
 use crate::chains::Chain;
 use crate::feasible::is_feasible;
@@ -11,12 +11,12 @@ use zone_network::Network;
 
 /// Whether the chain proves the outcome the best: with the chain's flows and generation it is feasible, and
 /// each set proves its component. A yes proves that the outcome's unserved load, discharge and charge are
-/// those of a best dispatch.
+/// those of every best dispatch.
 pub fn check_chain(net: &Network, outcome: &HourOutcome, chain: &Chain) -> bool
     requires { Fit net.now outcome.now chain.now }
     ensures exact { IsTrue result ↔ (IsFeasibleBy net.now outcome.now chain.now × IsProvedBy net.now outcome.now chain.now) }
     ensures best { IsTrue result → IsBest net.now (dispatch_of net.now outcome.now chain.now) }
-    ensures outcome { IsTrue result → IsBestOutcome net.now outcome.now }
+    ensures outcome { IsTrue result → IsOnlyBestOutcome net.now outcome.now }
 {
     is_accepted(net, outcome, chain)
 }

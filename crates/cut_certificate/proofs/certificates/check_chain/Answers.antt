@@ -1,4 +1,5 @@
 use Rattle.cut_certificate.proofs.BestLemmas.{chain_is_best, chain_is_best_outcome}
+use Rattle.cut_certificate.proofs.UniqueLemmas.{only_best}
 use Rattle.cut_certificate.proofs.certificates.check_chain.Goals as goal
 
 pub returns-clause-best : goal.returns-clause-best
@@ -9,4 +10,5 @@ returns-clause-best c = λ yes.
 pub returns-clause-outcome : goal.returns-clause-outcome
 returns-clause-outcome c = λ yes.
     let proved = c.is_accepted.ensures.exact.0 yes in
-    chain_is_best_outcome c.args.net.now c.args.outcome.now c.args.chain.now c.is_accepted.ensures.valid.shape proved.0 proved.1
+    only_best c.args.net.now c.args.outcome.now
+    (chain_is_best_outcome c.args.net.now c.args.outcome.now c.args.chain.now c.is_accepted.ensures.valid.shape proved.0 proved.1)
