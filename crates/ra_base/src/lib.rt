@@ -3,6 +3,7 @@
 #![tactic(auto)]
 
 mod amounts;
+pub mod limits;
 mod memory;
 mod memory_shelf;
 mod memory_sink;

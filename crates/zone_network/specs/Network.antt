@@ -1,5 +1,6 @@
 use Rattle.std.specs.Prelude.{◌≡◌, ◌≢◌, ℕ, ℤ, pos, negsuc, ◌+◌, ◌<◌, ◌≤◌, ◌==◌, ◌&&◌, ◌||◌, not, List, length, replicate, slice_index, slice_index_or, All, filter}
 use Rattle.std.specs.List.{range_with_len}
+use Rattle.ra_base.specs.declared.limits.TheConstants.{MOST_ZONES, MOST_INTERFACES, MOST_STORAGES, MOST_LINK_MW}
 use Rattle.zone_network.specs.declared.links.Link.{Link}
 use Rattle.zone_network.specs.Sums.{NumberSet, sum_where}
 
@@ -28,16 +29,16 @@ pub record IsLinkAmong (zones : ℕ) (l : Link) : Type 0 where
 -- 1 to 32 zones, at most 128 links and 128 devices, and each number of a zone in range
 pub record IsShape (s : ShapeParts) : Type 0 where
   pub some : 0 < s.zones
-  pub zones : s.zones ≤ 32
-  pub links : length s.ends ≤ 128
-  pub devices : length s.device_zones ≤ 128
+  pub zones : s.zones ≤ MOST_ZONES
+  pub links : length s.ends ≤ MOST_INTERFACES
+  pub devices : length s.device_zones ≤ MOST_STORAGES
   pub each_link : All (IsLinkAmong s.zones) s.ends
   pub each_device : All (λ zone. zone < s.zones) s.device_zones
 
 -- so many amounts, each at most 1,000,000 MW
 pub record AreAmounts (count : ℕ) (amounts : List ℕ) : Type 0 where
   pub size : length amounts ≡ count
-  pub most : All (λ mw. mw ≤ 1000000) amounts
+  pub most : All (λ mw. mw ≤ MOST_LINK_MW) amounts
 
 -- a network: each zone, link and device has its amounts
 pub record IsNetwork (n : NetworkParts) : Type 0 where
