@@ -5,7 +5,7 @@ use Rattle.decimal_text.specs.DecimalText.{whole_text, fixed_text}
 use Rattle.sample_run.specs.declared.cut_rows.CutRow.{CutRow}
 use Rattle.sample_run.specs.declared.estimates.Sums.{Sums}
 use Rattle.sample_run.specs.Estimates.{mean_of, error_of}
-use Rattle.sample_run.specs.Totals.{Sheet, zone_of}
+use Rattle.sample_run.specs.Totals.{Sheet, zone_sums}
 
 -- a byte of a name as it is written: `?` in place of a control byte
 abbrev pub shown_byte : ℕ → ℕ
@@ -30,7 +30,7 @@ sums_text sums samples =
 -- the line of a zone
 unfoldable pub zone_line : List (List ℕ) → Sheet → ℕ → List ℕ
 zone_line names sheet zone =
-    codes "zone " ++ name_text (slice_index_or names zone []) ++ sums_text (zone_of sheet zone) sheet.samples
+    codes "zone " ++ name_text (slice_index_or names zone []) ++ sums_text (zone_sums sheet zone) sheet.samples
 
 -- whether a mask holds a zone: bit `zone` of the mask
 abbrev pub is_inside : ℕ → ℕ → Bool

@@ -30,7 +30,7 @@ fn not_plain(table: TableName) -> PlainError
 
 // The zone that the table `zones` names.
 #[tactic(auto, unfolding(crate::specs::PlainReading::zone_in))]
-fn zone_of(table: &[u8]) -> Option<&[u8]>
+fn zone_sums(table: &[u8]) -> Option<&[u8]>
     ensures value { option_map (λ zone. zone.now) result ≡ zone_in table.now }
     ensures name { IfSome result (λ zone. IsName zone.now) }
 {
@@ -158,7 +158,7 @@ pub(crate) fn read_tables(
 ) -> Result<System, PlainError>
     ensures { Gives result (tables_in zones.now units.now load.now) }
 {
-    let Some(zone) = zone_of(zones) else {
+    let Some(zone) = zone_sums(zones) else {
         return Err(not_plain(TableName::Zones));
     };
     let mut draft = Draft::new(alloc);

@@ -10,18 +10,18 @@ use Rattle.ra_base.specs.declared.memory_shelf.Entry.{Entry}
 use Rattle.ra_base.specs.declared.memory_shelf.MemoryShelf.{MemoryShelf}
 
 -- the place of a table in their order, which tells them apart
-abbrev pub place_of : TableName → ℕ
-place_of Zones = 0
-place_of Units = 1
-place_of Interfaces = 2
-place_of Lines = 3
-place_of Storages = 4
-place_of Load = 5
-place_of Variable = 6
+abbrev pub table_number : TableName → ℕ
+table_number Zones = 0
+table_number Units = 1
+table_number Interfaces = 2
+table_number Lines = 3
+table_number Storages = 4
+table_number Load = 5
+table_number Variable = 6
 
 -- whether two folders and tables are the same
 abbrev pub is_same : List ℕ → TableName → List ℕ → TableName → Bool
-is_same folder table f t = (place_of table == place_of t) && bytes_eq folder f
+is_same folder table f t = (table_number table == table_number t) && bytes_eq folder f
 
 -- the tables where one of them has other bytes, and all else stays
 abbrev pub with_table : Tables → List ℕ → TableName → List ℕ → Tables

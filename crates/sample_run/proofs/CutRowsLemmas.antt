@@ -4,7 +4,7 @@ use Rattle.std.proofs.lemmas.List.Sums.{sum_by-cons, sum_by-insert, sum_by-set, 
 use Rattle.std.proofs.lemmas.List.{take_all, get_or_read}
 use Rattle.std.proofs.lemmas.Bool.{cases_Bool, eq-eqb, ne_eqb, cases_lt, cases_eq, lt-ltb, le-ltb, cond-true, cond-false}
 use Rattle.sample_run.specs.declared.cut_rows.CutRow.{CutRow}
-use Rattle.sample_run.specs.CutRows.{rows_of, hours_at, unserved_at, AreRows, no_row, AddsRows}
+use Rattle.sample_run.specs.CutRows.{rows_of, hours_at, cut_unserved, AreRows, no_row, AddsRows}
 
 -- what an amount adds at a mask
 abbrev pub share : ℕ → ℕ → ℕ → ℕ
@@ -14,25 +14,25 @@ pub hours_at-cons : (row : CutRow) (rows : List CutRow) (m : ℕ) → hours_at (
 unfolding hours_at
 hours_at-cons row rows m = sum_by-cons (λ (r : CutRow). share r.mask r.hours m) row rows
 
-pub unserved_at-cons : (row : CutRow) (rows : List CutRow) (m : ℕ) → unserved_at (row ∷ rows) m ≡ share row.mask row.unserved m + unserved_at rows m
-unfolding unserved_at
-unserved_at-cons row rows m = sum_by-cons (λ (r : CutRow). share r.mask r.unserved m) row rows
+pub cut_unserved-cons : (row : CutRow) (rows : List CutRow) (m : ℕ) → cut_unserved (row ∷ rows) m ≡ share row.mask row.unserved m + cut_unserved rows m
+unfolding cut_unserved
+cut_unserved-cons row rows m = sum_by-cons (λ (r : CutRow). share r.mask r.unserved m) row rows
 
 pub hours_at-none : (m : ℕ) → hours_at [] m ≡ 0
 unfolding hours_at
 hours_at-none m = refl
 
-pub unserved_at-none : (m : ℕ) → unserved_at [] m ≡ 0
-unfolding unserved_at
-unserved_at-none m = refl
+pub cut_unserved-none : (m : ℕ) → cut_unserved [] m ≡ 0
+unfolding cut_unserved
+cut_unserved-none m = refl
 
 hours_at-insert : (rows : List CutRow) (i : ℕ) (row : CutRow) (m : ℕ) → hours_at (insert rows i row) m ≡ hours_at rows m + share row.mask row.hours m
 unfolding hours_at
 hours_at-insert rows i row m = sum_by-insert (λ (r : CutRow). share r.mask r.hours m) rows i row
 
-unserved_at-insert : (rows : List CutRow) (i : ℕ) (row : CutRow) (m : ℕ) → unserved_at (insert rows i row) m ≡ unserved_at rows m + share row.mask row.unserved m
-unfolding unserved_at
-unserved_at-insert rows i row m = sum_by-insert (λ (r : CutRow). share r.mask r.unserved m) rows i row
+cut_unserved-insert : (rows : List CutRow) (i : ℕ) (row : CutRow) (m : ℕ) → cut_unserved (insert rows i row) m ≡ cut_unserved rows m + share row.mask row.unserved m
+unfolding cut_unserved
+cut_unserved-insert rows i row m = sum_by-insert (λ (r : CutRow). share r.mask r.unserved m) rows i row
 
 share-add : (mask a b m : ℕ) → share mask (a + b) m ≡ share mask a m + share mask b m
 share-add mask a b m = ⊎_elim (λ (e : eqb mask m ≡ true). rw e refl) (λ (e : eqb mask m ≡ false). rw e refl) (cases_Bool (eqb mask m))
@@ -41,9 +41,9 @@ hours_at-set : (rows : List CutRow) (i : ℕ) (row : CutRow) (m : ℕ) → i < l
 unfolding hours_at
 hours_at-set rows i row m h = sum_by-set (λ (r : CutRow). share r.mask r.hours m) rows i row no_row h
 
-unserved_at-set : (rows : List CutRow) (i : ℕ) (row : CutRow) (m : ℕ) → i < length rows → unserved_at (set rows i row) m + share (get_or rows i no_row).mask (get_or rows i no_row).unserved m ≡ unserved_at rows m + share row.mask row.unserved m
-unfolding unserved_at
-unserved_at-set rows i row m h = sum_by-set (λ (r : CutRow). share r.mask r.unserved m) rows i row no_row h
+cut_unserved-set : (rows : List CutRow) (i : ℕ) (row : CutRow) (m : ℕ) → i < length rows → cut_unserved (set rows i row) m + share (get_or rows i no_row).mask (get_or rows i no_row).unserved m ≡ cut_unserved rows m + share row.mask row.unserved m
+unfolding cut_unserved
+cut_unserved-set rows i row m h = sum_by-set (λ (r : CutRow). share r.mask r.unserved m) rows i row no_row h
 
 -- a row's own hours are among those of its mask
 pub hours_at-own : (rows : List CutRow) (i : ℕ) → i < length rows → (get_or rows i no_row).hours ≤ hours_at rows (get_or rows i no_row).mask
@@ -55,9 +55,9 @@ hours_at-own rows i h =
     let own : share mask (get_or rows i no_row).hours mask ≡ (get_or rows i no_row).hours = cond-true _ _ _ e in
     omega (arith, least, own)
 
-pub unserved_at-own : (rows : List CutRow) (i : ℕ) → i < length rows → (get_or rows i no_row).unserved ≤ unserved_at rows (get_or rows i no_row).mask
-unfolding unserved_at
-unserved_at-own rows i h =
+pub cut_unserved-own : (rows : List CutRow) (i : ℕ) → i < length rows → (get_or rows i no_row).unserved ≤ cut_unserved rows (get_or rows i no_row).mask
+unfolding cut_unserved
+cut_unserved-own rows i h =
     let mask = (get_or rows i no_row).mask in
     let least = get_or-le-sum_by (λ (r : CutRow). share r.mask r.unserved mask) rows i no_row h in
     let e : eqb mask mask ≡ true = eq-eqb mask mask refl in
@@ -85,14 +85,14 @@ AreRows-set low end (first ∷ rows) (suc at) row are h e some =
 pub hours_at-one : (row : CutRow) (m : ℕ) → hours_at (row ∷ []) m ≡ share row.mask row.hours m
 hours_at-one row m = omega (arith, hours_at-cons row [] m, hours_at-none m)
 
-pub unserved_at-one : (row : CutRow) (m : ℕ) → unserved_at (row ∷ []) m ≡ share row.mask row.unserved m
-unserved_at-one row m = omega (arith, unserved_at-cons row [] m, unserved_at-none m)
+pub cut_unserved-one : (row : CutRow) (m : ℕ) → cut_unserved (row ∷ []) m ≡ share row.mask row.unserved m
+cut_unserved-one row m = omega (arith, cut_unserved-cons row [] m, cut_unserved-none m)
 
 -- a row of a new mask, put in its place
 pub AddsRows-insert : (rows : List CutRow) (at : ℕ) (more : CutRow) → at ≤ length rows → ((k : ℕ) → k < at → (get_or rows k no_row).mask < more.mask) → (at < length rows → more.mask < (get_or rows at no_row).mask) → AddsRows rows (more ∷ []) (insert rows at more)
 AddsRows-insert rows at more within below above = record {
   hours = λ m. omega (arith, hours_at-insert rows at more m, hours_at-one more m);
-  unserved = λ m. omega (arith, unserved_at-insert rows at more m, unserved_at-one more m);
+  unserved = λ m. omega (arith, cut_unserved-insert rows at more m, cut_unserved-one more m);
   ascending = λ low end old one. AreRows-insert low end rows at more old one.0 one.1 one.2 within below above;
 }
 
@@ -106,11 +106,11 @@ AddsRows-set rows at row more h e same =
     let mine : share row.mask more.hours m ≡ share more.mask more.hours m = ap (λ k. share k more.hours m) same in
     let old : share row.mask row.hours m ≡ share (get_or rows at no_row).mask (get_or rows at no_row).hours m = ap (λ (r : CutRow). share r.mask r.hours m) e in
     omega (arith, hours_at-set rows at sum m h, hours_at-one more m, split, mine, old) in
-    let energy_is : (m : ℕ) → unserved_at (set rows at sum) m ≡ unserved_at rows m + unserved_at (more ∷ []) m = λ m.
+    let energy_is : (m : ℕ) → cut_unserved (set rows at sum) m ≡ cut_unserved rows m + cut_unserved (more ∷ []) m = λ m.
     let split = share-add row.mask row.unserved more.unserved m in
     let mine : share row.mask more.unserved m ≡ share more.mask more.unserved m = ap (λ k. share k more.unserved m) same in
     let old : share row.mask row.unserved m ≡ share (get_or rows at no_row).mask (get_or rows at no_row).unserved m = ap (λ (r : CutRow). share r.mask r.unserved m) e in
-    omega (arith, unserved_at-set rows at sum m h, unserved_at-one more m, split, mine, old) in
+    omega (arith, cut_unserved-set rows at sum m h, cut_unserved-one more m, split, mine, old) in
     record {
       hours = hours_are;
       unserved = energy_is;
@@ -129,38 +129,38 @@ hours_at-take_more : (rows : List CutRow) (i m : ℕ) → i < length rows → ho
 unfolding hours_at
 hours_at-take_more rows i m h = sum_by_more (λ (r : CutRow). share r.mask r.hours m) rows i no_row h
 
-unserved_at-take_more : (rows : List CutRow) (i m : ℕ) → i < length rows → unserved_at (take (i + 1) rows) m ≡ unserved_at (take i rows) m + share (get_or rows i no_row).mask (get_or rows i no_row).unserved m
-unfolding unserved_at
-unserved_at-take_more rows i m h = sum_by_more (λ (r : CutRow). share r.mask r.unserved m) rows i no_row h
+cut_unserved-take_more : (rows : List CutRow) (i m : ℕ) → i < length rows → cut_unserved (take (i + 1) rows) m ≡ cut_unserved (take i rows) m + share (get_or rows i no_row).mask (get_or rows i no_row).unserved m
+unfolding cut_unserved
+cut_unserved-take_more rows i m h = sum_by_more (λ (r : CutRow). share r.mask r.unserved m) rows i no_row h
 
 hours_at-take : (rows : List CutRow) (i m : ℕ) → hours_at (take i rows) m ≤ hours_at rows m
 unfolding hours_at
 hours_at-take rows i m = sum_by-take-le (λ (r : CutRow). share r.mask r.hours m) rows i
 
-unserved_at-take : (rows : List CutRow) (i m : ℕ) → unserved_at (take i rows) m ≤ unserved_at rows m
-unfolding unserved_at
-unserved_at-take rows i m = sum_by-take-le (λ (r : CutRow). share r.mask r.unserved m) rows i
+cut_unserved-take : (rows : List CutRow) (i m : ℕ) → cut_unserved (take i rows) m ≤ cut_unserved rows m
+unfolding cut_unserved
+cut_unserved-take rows i m = sum_by-take-le (λ (r : CutRow). share r.mask r.unserved m) rows i
 
 -- the rows after the first i of `more`
 pub record AddsFirst (old more : List CutRow) (i : ℕ) (rows : List CutRow) : Type 0 where
   pub hours : (m : ℕ) → hours_at rows m ≡ hours_at old m + hours_at (take i more) m
-  pub unserved : (m : ℕ) → unserved_at rows m ≡ unserved_at old m + unserved_at (take i more) m
+  pub unserved : (m : ℕ) → cut_unserved rows m ≡ cut_unserved old m + cut_unserved (take i more) m
   pub ascending : (low end : ℕ) → AreRows low end old → AreRows low end more → AreRows low end rows
 
 pub AddsFirst-none : (old more : List CutRow) → AddsFirst old more 0 old
 AddsFirst-none old more = record {
   hours = λ m. omega (arith, hours_at-none m);
-  unserved = λ m. omega (arith, unserved_at-none m);
+  unserved = λ m. omega (arith, cut_unserved-none m);
   ascending = λ low end are _. are;
 }
 
 pub AddsFirst-more : (old more : List CutRow) (i : ℕ) (rows new : List CutRow) (row : CutRow) → i < length more → row ≡ get_or more i no_row → AddsFirst old more i rows → AddsRows rows (row ∷ []) new → AddsFirst old more (i + 1) new
 AddsFirst-more old more i rows new row h e first adds =
     let one_hours : (m : ℕ) → hours_at (row ∷ []) m ≡ share (get_or more i no_row).mask (get_or more i no_row).hours m = λ m. hours_at-one row m ∙ ap (λ (r : CutRow). share r.mask r.hours m) e in
-    let one_unserved : (m : ℕ) → unserved_at (row ∷ []) m ≡ share (get_or more i no_row).mask (get_or more i no_row).unserved m = λ m. unserved_at-one row m ∙ ap (λ (r : CutRow). share r.mask r.unserved m) e in
+    let one_unserved : (m : ℕ) → cut_unserved (row ∷ []) m ≡ share (get_or more i no_row).mask (get_or more i no_row).unserved m = λ m. cut_unserved-one row m ∙ ap (λ (r : CutRow). share r.mask r.unserved m) e in
     record {
       hours = λ m. omega (arith, adds.hours m, first.hours m, one_hours m, hours_at-take_more more i m h);
-      unserved = λ m. omega (arith, adds.unserved m, first.unserved m, one_unserved m, unserved_at-take_more more i m h);
+      unserved = λ m. omega (arith, adds.unserved m, first.unserved m, one_unserved m, cut_unserved-take_more more i m h);
       ascending = λ low end olds mores.
           let at = AreRows-at low end more i mores h in
           let one : AreRows low end (row ∷ []) = subst (λ (r : CutRow). AreRows low end (r ∷ [])) (sym e) (at.0, at.1, at.2, tt) in
@@ -183,20 +183,20 @@ next_hours old more i rows row bound h e first fits =
     let own : share (get_or more i no_row).mask (get_or more i no_row).hours m ≡ row.hours = ap (λ (r : CutRow). share r.mask r.hours m) (sym e) ∙ cond-true _ _ _ (eq-eqb m m refl) in
     omega (arith, first.hours m, hours_at-take_more more i m h, hours_at-take more (i + 1) m, own)
 
-pub next_unserved : (old more : List CutRow) (i : ℕ) (rows : List CutRow) (row : CutRow) (bound : ℕ) → i < length more → row ≡ get_or more i no_row → AddsFirst old more i rows → unserved_at old row.mask + unserved_at more row.mask < bound → unserved_at rows row.mask + row.unserved < bound
+pub next_unserved : (old more : List CutRow) (i : ℕ) (rows : List CutRow) (row : CutRow) (bound : ℕ) → i < length more → row ≡ get_or more i no_row → AddsFirst old more i rows → cut_unserved old row.mask + cut_unserved more row.mask < bound → cut_unserved rows row.mask + row.unserved < bound
 next_unserved old more i rows row bound h e first fits =
     let m = row.mask in
     let own : share (get_or more i no_row).mask (get_or more i no_row).unserved m ≡ row.unserved = ap (λ (r : CutRow). share r.mask r.unserved m) (sym e) ∙ cond-true _ _ _ (eq-eqb m m refl) in
-    omega (arith, first.unserved m, unserved_at-take_more more i m h, unserved_at-take more (i + 1) m, own)
+    omega (arith, first.unserved m, cut_unserved-take_more more i m h, cut_unserved-take more (i + 1) m, own)
 
 -- what a row of a mask has is within a bound on that mask's sums
-pub own_hours : (rows : List CutRow) (at mask : ℕ) (row test : CutRow) → at < length rows → row ≡ get_or rows at row → test ≡ get_or rows at test → test.mask ≡ mask → (row.mask ≡ mask) × (row.hours ≤ hours_at rows mask) × (row.unserved ≤ unserved_at rows mask)
+pub own_hours : (rows : List CutRow) (at mask : ℕ) (row test : CutRow) → at < length rows → row ≡ get_or rows at row → test ≡ get_or rows at test → test.mask ≡ mask → (row.mask ≡ mask) × (row.hours ≤ hours_at rows mask) × (row.unserved ≤ cut_unserved rows mask)
 own_hours rows at mask row test h is test_is same =
     let row_is : row ≡ get_or rows at no_row = get_or_read rows at row h is no_row in
     let test_at : test ≡ get_or rows at no_row = get_or_read rows at test h test_is no_row in
     let there : (get_or rows at no_row).mask ≡ mask = sym (ap (λ (r : CutRow). r.mask) test_at) ∙ same in
-    let P : CutRow → Type 0 = λ r. (r.mask ≡ mask) × (r.hours ≤ hours_at rows mask) × (r.unserved ≤ unserved_at rows mask) in
-    subst P (sym row_is) (there, (rw there at (hours_at-own rows at h)), (rw there at (unserved_at-own rows at h)))
+    let P : CutRow → Type 0 = λ r. (r.mask ≡ mask) × (r.hours ≤ hours_at rows mask) × (r.unserved ≤ cut_unserved rows mask) in
+    subst P (sym row_is) (there, (rw there at (hours_at-own rows at h)), (rw there at (cut_unserved-own rows at h)))
 
 rows_of-cons_yes : (hours unserved : ℕ → ℕ) (m : ℕ) (ms : List ℕ) → 0 < hours m → rows_of hours unserved (m ∷ ms) ≡ record { mask = m; hours = hours m; unserved = unserved m } ∷ rows_of hours unserved ms
 unfolding rows_of
@@ -214,12 +214,12 @@ hours_at-absent low end (row ∷ rows) m are h =
     let mine : share row.mask row.hours m ≡ 0 = cond-false _ _ _ other in
     omega (arith, hours_at-cons row rows m, mine, hours_at-absent (row.mask + 1) end rows m are.3 (omega arith))
 
-unserved_at-absent : (low end : ℕ) (rows : List CutRow) (m : ℕ) → AreRows low end rows → m < low → unserved_at rows m ≡ 0
-unserved_at-absent low end [] m are h = unserved_at-none m
-unserved_at-absent low end (row ∷ rows) m are h =
+cut_unserved-absent : (low end : ℕ) (rows : List CutRow) (m : ℕ) → AreRows low end rows → m < low → cut_unserved rows m ≡ 0
+cut_unserved-absent low end [] m are h = cut_unserved-none m
+cut_unserved-absent low end (row ∷ rows) m are h =
     let other : eqb row.mask m ≡ false = ne_eqb row.mask m (λ e. omega arith) in
     let mine : share row.mask row.unserved m ≡ 0 = cond-false _ _ _ other in
-    omega (arith, unserved_at-cons row rows m, mine, unserved_at-absent (row.mask + 1) end rows m are.3 (omega arith))
+    omega (arith, cut_unserved-cons row rows m, mine, cut_unserved-absent (row.mask + 1) end rows m are.3 (omega arith))
 
 share_own : (mask amount : ℕ) → share mask amount mask ≡ amount
 share_own mask amount = cond-true _ _ _ (eq-eqb mask mask refl)
@@ -231,7 +231,7 @@ same_row : (row : CutRow) (m h u : ℕ) → row.mask ≡ m → row.hours ≡ h �
 same_row row m h u e f g = rw (← e, ← f, ← g) refl
 
 -- rows in order are the rows of what they have at each mask
-pub rows_are : (hours unserved : ℕ → ℕ) (low k : ℕ) (rows : List CutRow) → AreRows low (low + k) rows → ((m : ℕ) → low ≤ m → m < low + k → hours_at rows m ≡ hours m) → ((m : ℕ) → low ≤ m → m < low + k → unserved_at rows m ≡ unserved m) → rows ≡ rows_of hours unserved (range_with_len low k)
+pub rows_are : (hours unserved : ℕ → ℕ) (low k : ℕ) (rows : List CutRow) → AreRows low (low + k) rows → ((m : ℕ) → low ≤ m → m < low + k → hours_at rows m ≡ hours m) → ((m : ℕ) → low ≤ m → m < low + k → cut_unserved rows m ≡ unserved m) → rows ≡ rows_of hours unserved (range_with_len low k)
 unfolding rows_of
 rows_are hours unserved low zero [] are hs us = refl
 rows_are hours unserved low zero (row ∷ rows) are hs us = absurd (omega (arith, are.0, are.1))
@@ -247,11 +247,11 @@ rows_are hours unserved low (suc k) (row ∷ rows) are hs us =
     let mine : share row.mask row.hours low ≡ row.hours = rw (← here) (share_own row.mask row.hours) in
     let hours_is : row.hours ≡ hours low = omega (arith, hs low (omega arith) (omega arith), hours_at-cons row rows low, hours_at-absent (row.mask + 1) (low + 1 + k) rows low after (omega arith), mine) in
     let my_energy : share row.mask row.unserved low ≡ row.unserved = rw (← here) (share_own row.mask row.unserved) in
-    let unserved_is : row.unserved ≡ unserved low = omega (arith, us low (omega arith) (omega arith), unserved_at-cons row rows low, unserved_at-absent (row.mask + 1) (low + 1 + k) rows low after (omega arith), my_energy) in
+    let unserved_is : row.unserved ≡ unserved low = omega (arith, us low (omega arith) (omega arith), cut_unserved-cons row rows low, cut_unserved-absent (row.mask + 1) (low + 1 + k) rows low after (omega arith), my_energy) in
     let in_order : AreRows (low + 1) (low + 1 + k) rows = rw here at after in
     let rest = rows_are hours unserved (low + 1) k rows in_order
     (λ m g l. omega (arith, hs m (omega arith) (omega arith), hours_at-cons row rows m, share_other row.mask row.hours m (λ x. omega arith)))
-    (λ m g l. omega (arith, us m (omega arith) (omega arith), unserved_at-cons row rows m, share_other row.mask row.unserved m (λ x. omega arith))) in
+    (λ m g l. omega (arith, us m (omega arith) (omega arith), cut_unserved-cons row rows m, share_other row.mask row.unserved m (λ x. omega arith))) in
     ap (λ r. r ∷ rows) (same_row row low (hours low) (unserved low) here hours_is unserved_is)
     ∙ ap (λ rs. record { mask = low; hours = hours low; unserved = unserved low } ∷ rs) rest
     ∙ sym (rows_of-cons_yes hours unserved low (range_with_len (low + 1) k) (let some : 0 < row.hours = are.2 in omega arith)))
@@ -302,21 +302,21 @@ hours_at-rows_of hours unserved low (suc k) m g l =
     (cases_eq m low))
     (cases_lt 0 (hours low))
 
-pub unserved_at-rows_of : (hours unserved : ℕ → ℕ) (low k m : ℕ) → low ≤ m → m < low + k → (hours m ≡ 0 → unserved m ≡ 0) → unserved_at (rows_of hours unserved (range_with_len low k)) m ≡ unserved m
+pub cut_unserved-rows_of : (hours unserved : ℕ → ℕ) (low k m : ℕ) → low ≤ m → m < low + k → (hours m ≡ 0 → unserved m ≡ 0) → cut_unserved (rows_of hours unserved (range_with_len low k)) m ≡ unserved m
 unfolding rows_of
-unserved_at-rows_of hours unserved low zero m g l z = absurd (omega arith)
-unserved_at-rows_of hours unserved low (suc k) m g l z =
+cut_unserved-rows_of hours unserved low zero m g l z = absurd (omega arith)
+cut_unserved-rows_of hours unserved low (suc k) m g l z =
     let rows = rows_of hours unserved (range_with_len (low + 1) k) in
     let row : CutRow = record { mask = low; hours = hours low; unserved = unserved low } in
-    let absent : m ≡ low → unserved_at rows m ≡ 0 = λ x. unserved_at-absent (low + 1) (low + 1 + k) rows m (AreRows-rows_of hours unserved (low + 1) k) (omega arith) in
-    let present : (m ≡ low → ⊥) → unserved_at rows m ≡ unserved m = λ x. unserved_at-rows_of hours unserved (low + 1) k m (omega (arith, x)) (omega arith) z in
+    let absent : m ≡ low → cut_unserved rows m ≡ 0 = λ x. cut_unserved-absent (low + 1) (low + 1 + k) rows m (AreRows-rows_of hours unserved (low + 1) k) (omega arith) in
+    let present : (m ≡ low → ⊥) → cut_unserved rows m ≡ unserved m = λ x. cut_unserved-rows_of hours unserved (low + 1) k m (omega (arith, x)) (omega arith) z in
     ⊎_elim
-    (λ (some : 0 < hours low). ap (λ rs. unserved_at rs m) (rows_of-cons_yes hours unserved low (range_with_len (low + 1) k) some) ∙ unserved_at-cons row rows m ∙
+    (λ (some : 0 < hours low). ap (λ rs. cut_unserved rs m) (rows_of-cons_yes hours unserved low (range_with_len (low + 1) k) some) ∙ cut_unserved-cons row rows m ∙
     ⊎_elim
     (λ (x : m ≡ low). let own : share low (unserved low) m ≡ unserved low = rw x (share_own low (unserved low)) in let e : unserved m ≡ unserved low = ap unserved x in omega (arith, absent x, own, e))
     (λ (x : m ≡ low → ⊥). omega (arith, present x, share_other low (unserved low) m (λ y. x (sym y))))
     (cases_eq m low))
-    (λ (none : hours low ≤ 0). ap (λ rs. unserved_at rs m) (rows_of-cons_no hours unserved low (range_with_len (low + 1) k) (omega arith)) ∙
+    (λ (none : hours low ≤ 0). ap (λ rs. cut_unserved rs m) (rows_of-cons_no hours unserved low (range_with_len (low + 1) k) (omega arith)) ∙
     ⊎_elim
     (λ (x : m ≡ low). let e : hours m ≡ hours low = ap hours x in let f : unserved m ≡ 0 = z (omega arith) in omega (arith, absent x, f))
     (λ (x : m ≡ low → ⊥). present x)

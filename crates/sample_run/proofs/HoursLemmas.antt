@@ -7,7 +7,7 @@ use Rattle.std.proofs.lemmas.Bool.{cases_eq}
 use Rattle.std.proofs.lemmas.Nat.{mul-le, div-mul-add, mod-mul-add}
 use Rattle.sample_run.specs.declared.unit_states.UnitState.{UnitState}
 use Rattle.sample_run.specs.Draw.{draw, Draws}
-use Rattle.sample_run.specs.UnitStates.{state_in, supply_of, no_state}
+use Rattle.sample_run.specs.UnitStates.{state_in, unit_supply, no_state}
 
 -- the draw of a unit in this hour
 abbrev pub word_of : Draws → ℕ → ℕ → ℕ
@@ -18,7 +18,7 @@ pub record IsHalfway (old : List UnitState) (first : Draws) (hour i : ℕ) (unit
   pub draws_are : now ≡ record first { place = hour * first.components + i }
   pub done : (k : ℕ) → k < i → get_or units k no_state ≡ state_in hour (get_or old k no_state) (word_of first hour k)
   pub rest : (k : ℕ) → i ≤ k → get_or units k no_state ≡ get_or old k no_state
-  pub supply_is : supply ≡ sum_by supply_of (take i units)
+  pub supply_is : supply ≡ sum_by unit_supply (take i units)
   pub bound : supply ≤ i * 200000
 
 pub halfway-none : (old : List UnitState) (first : Draws) (hour : ℕ) → first.place ≡ hour * first.components → IsHalfway old first hour 0 old first 0
@@ -30,10 +30,10 @@ halfway-none old first hour e = record {
   bound = omega arith;
 }
 
-sum-set : (units : List UnitState) (i : ℕ) (unit : UnitState) → i < length units → sum_by supply_of (take (i + 1) (set units i unit)) ≡ sum_by supply_of (take i units) + supply_of unit
-sum-set units i unit h = ap (λ xs. sum_by supply_of xs) (take_more_set units i unit h) ∙ sum_by_push supply_of (take i units) unit
+sum-set : (units : List UnitState) (i : ℕ) (unit : UnitState) → i < length units → sum_by unit_supply (take (i + 1) (set units i unit)) ≡ sum_by unit_supply (take i units) + unit_supply unit
+sum-set units i unit h = ap (λ xs. sum_by unit_supply xs) (take_more_set units i unit h) ∙ sum_by_push unit_supply (take i units) unit
 
-supply-le : (unit : UnitState) → supply_of unit ≤ unit.capacity
+supply-le : (unit : UnitState) → unit_supply unit ≤ unit.capacity
 supply-le unit = go unit.is_up unit.capacity
   where
     go : (b : Bool) (n : ℕ) → cond b n 0 ≤ n
@@ -42,7 +42,7 @@ supply-le unit = go unit.is_up unit.capacity
 
 pub halfway-more : (old : List UnitState) (first : Draws) (hour i : ℕ) (units : List UnitState) (now next : Draws) (supply word : ℕ) → IsHalfway old first hour i units now supply → i < length units → length old ≡ first.components → length units ≡ length old → length old ≤ 2048 → hour < 8784 → ((k : ℕ) → k < length old → (get_or old k no_state).capacity ≤ 200000)
     → word ≡ draw now.components now.seed now.sample (now.place / now.components) (now.place % now.components) → next ≡ record now { place = (now.place + 1) % 2 ^ 68 }
-    → IsHalfway old first hour (i + 1) (set units i (state_in hour (get_or units i no_state) word)) next (supply + supply_of (state_in hour (get_or units i no_state) word))
+    → IsHalfway old first hour (i + 1) (set units i (state_in hour (get_or units i no_state) word)) next (supply + unit_supply (state_in hour (get_or units i no_state) word))
 halfway-more old first hour i units now next supply word is h size same_size few early small word_is next_is =
     let place = hour * first.components + i in
     let at : Draws = record first { place = place } in

@@ -7,7 +7,7 @@ use Rattle.std.proofs.lemmas.List.Sums.{sum_by_push, sum_by-cons}
 use Rattle.std.proofs.lemmas.Bool.{cases_Bool, cases_eq, cases_lt, eq-eqb, ne_eqb, lt-ltb, cond-true, cond-false}
 use Rattle.sample_run.specs.declared.cut_rows.CutRow.{CutRow}
 use Rattle.sample_run.specs.CutRows.{rows_of, AreRows, AddsRows, masks}
-use Rattle.sample_run.proofs.CutRowsLemmas.{rows_are, hours_at-none, unserved_at-none, hours_at-one, unserved_at-one, AreRows-rows_of, hours_at-rows_of, unserved_at-rows_of}
+use Rattle.sample_run.proofs.CutRowsLemmas.{rows_are, hours_at-none, cut_unserved-none, hours_at-one, cut_unserved-one, AreRows-rows_of, hours_at-rows_of, cut_unserved-rows_of}
 use Rattle.sample_run.specs.Results.{HourOutcome, no_outcome, one_zone_outcome, is_short, is_short_at, is_short_day, is_short_before, short_hours, short_days, short_events, unserved_energy, zone_energy, cut_hours, cut_energy, figures_of, last_short_below, Tally, tally_of, is_same_day, is_next_hour, IsInRange}
 use Rattle.sample_run.proofs.Counting.{count_to, count_more, count_same, count_changed, any_same, any_none, any_at}
 
@@ -233,7 +233,7 @@ energies-none low (suc zones) = ap (λ r. 0 ∷ r) (energies-none (low + 1) zone
 
 cuts-none : (zones : ℕ) → [] ≡ rows_of (cut_hours []) (cut_energy []) (masks zones)
 unfolding cut_hours cut_energy
-cuts-none zones = rows_are (cut_hours []) (cut_energy []) 1 (2 ^ zones - 1) [] tt (λ m g l. hours_at-none m) (λ m g l. unserved_at-none m)
+cuts-none zones = rows_are (cut_hours []) (cut_energy []) 1 (2 ^ zones - 1) [] tt (λ m g l. hours_at-none m) (λ m g l. cut_unserved-none m)
 
 pub tally-none : (room zones : ℕ) → make room 0 None 0 0 0 0 (replicate zones 0) [] ≡ tally_of room zones []
 unfolding tally_of figures_of last_short_below short_hours short_days short_events unserved_energy
@@ -259,7 +259,7 @@ tally-quiet room run t e =
     (rows_are (cut_hours (run ++ o ∷ [])) (cut_energy (run ++ o ∷ [])) 1 (2 ^ 1 - 1) old.figures.cuts
     (AreRows-rows_of (cut_hours run) (cut_energy run) 1 (2 ^ 1 - 1))
     (λ m g l. omega (arith, hours_at-rows_of (cut_hours run) (cut_energy run) 1 (2 ^ 1 - 1) m g l, cut_hours-more run o m, other m g))
-    (λ m g l. omega (arith, unserved_at-rows_of (cut_hours run) (cut_energy run) 1 (2 ^ 1 - 1) m g l (cut_energy-none run m), cut_energy-more run o m, none_there m g))))
+    (λ m g l. omega (arith, cut_unserved-rows_of (cut_hours run) (cut_energy run) 1 (2 ^ 1 - 1) m g l (cut_energy-none run m), cut_energy-more run o m, none_there m g))))
 
 not-flips : (b : Bool) → cond {A = ℕ} (not b) 1 0 ≡ cond b 0 1
 not-flips true = refl
@@ -298,7 +298,7 @@ tally-short room run t u rows some added e =
     (rows_are (cut_hours (run ++ o ∷ [])) (cut_energy (run ++ o ∷ [])) 1 (2 ^ 1 - 1) rows
     (adds.ascending 1 2 (AreRows-rows_of (cut_hours run) (cut_energy run) 1 (2 ^ 1 - 1)) (omega arith, omega arith, omega arith, tt))
     (λ m g l. omega (arith, adds.hours m, hours_at-one (record { mask = 1; hours = 1; unserved = u }) m, hours_at-rows_of (cut_hours run) (cut_energy run) 1 (2 ^ 1 - 1) m g l, cut_hours-more run o m, share_is m))
-    (λ m g l. omega (arith, adds.unserved m, unserved_at-one (record { mask = 1; hours = 1; unserved = u }) m, unserved_at-rows_of (cut_hours run) (cut_energy run) 1 (2 ^ 1 - 1) m g l (cut_energy-none run m), cut_energy-more run o m, energy_is m)))
+    (λ m g l. omega (arith, adds.unserved m, cut_unserved-one (record { mask = 1; hours = 1; unserved = u }) m, cut_unserved-rows_of (cut_hours run) (cut_energy run) 1 (2 ^ 1 - 1) m g l (cut_energy-none run m), cut_energy-more run o m, energy_is m)))
 
 -- ---- ranges
 zeros-at : (n z : ℕ) → get_or (replicate {A = ℕ} n 0) z 0 ≡ 0
@@ -320,7 +320,7 @@ IsInRange-none room zones few some_zone few_zones = record {
   few_rows = omega arith;
   rows = tt;
   row_hours = λ m. omega (arith, hours_at-none m);
-  row_unserved = λ m. omega (arith, unserved_at-none m);
+  row_unserved = λ m. omega (arith, cut_unserved-none m);
 }
 
 share-le : (b : Bool) (n : ℕ) → cond b n 0 ≤ n
@@ -353,5 +353,5 @@ IsInRange-short t last u days events rows is l one small few_days few_events add
       few_rows = omega (arith, is.few_rows);
       rows = let e : length (set t.figures.zones 0 (get_or t.figures.zones 0 0 + u)) ≡ 1 = len ∙ one in rw e new_rows;
       row_hours = λ m. omega (arith, added.hours m, hours_at-one row m, share-le (eqb 1 m) 1, is.row_hours m);
-      row_unserved = λ m. omega (arith, added.unserved m, unserved_at-one row m, share-le (eqb 1 m) u, is.row_unserved m);
+      row_unserved = λ m. omega (arith, added.unserved m, cut_unserved-one row m, share-le (eqb 1 m) u, is.row_unserved m);
     }

@@ -5,13 +5,13 @@ use Rattle.std.proofs.lemmas.List.FromFn.{fill_by_all, length-map-range_with_len
 use Rattle.std.proofs.lemmas.Bool.{cases_lt, lt-ltb, le-ltb, ne_eqb, cond-false}
 use Rattle.system_model.specs.declared.components.Unit.{Unit as UnitPart}
 use Rattle.system_model.specs.Rates.{out_weight, up_weight}
-use Rattle.system_model.specs.System.{SystemParts, unit_count, hour_count, unit_at, capacity_of, load_at, variable_at}
+use Rattle.system_model.specs.System.{SystemParts, unit_count, hour_count, unit_at, unit_capacity, hourly_load, hourly_variable}
 use Rattle.sample_run.specs.declared.unit_states.UnitState.{UnitState}
 use Rattle.sample_run.specs.Draw.{draw, Draws}
 use Rattle.sample_run.specs.Outages.{is_up, unit_is_up, fails, is_repaired, component_count}
 use Rattle.sample_run.specs.Results.{HourOutcome, no_outcome, one_zone_outcome, Tally, tally_of, figures_of}
 use Rattle.sample_run.specs.Run.{up_capacity, unserved_in, run_of, IsOnlyRun}
-use Rattle.sample_run.specs.UnitStates.{IsStateOf, AreStatesOf, state_in, supply_of, no_state}
+use Rattle.sample_run.specs.UnitStates.{IsStateOf, AreStatesOf, state_in, unit_supply, no_state}
 use Rattle.sample_run.proofs.Counting.{sum_same, sum_by-places}
 
 -- ---- one unit
@@ -66,12 +66,12 @@ states-stay system seed sample hour units new are same gone = record {
   each = λ k l. rw (gone k l) (state-stays (unit_at system k) (get_or units k no_state) hour (draw (component_count system) seed sample hour k) (are.each k l));
 }
 
-supply-is : (system : SystemParts) (seed sample hour : ℕ) (new : List UnitState) → AreStatesOf new system → ((k : ℕ) → k < unit_count system → (get_or new k no_state).is_up ≡ unit_is_up system seed sample k hour) → sum_by supply_of new ≡ up_capacity system seed sample hour
+supply-is : (system : SystemParts) (seed sample hour : ℕ) (new : List UnitState) → AreStatesOf new system → ((k : ℕ) → k < unit_count system → (get_or new k no_state).is_up ≡ unit_is_up system seed sample k hour) → sum_by unit_supply new ≡ up_capacity system seed sample hour
 unfolding up_capacity
 supply-is system seed sample hour new are up =
-    sum_by-places supply_of new no_state
-    ∙ ap (λ n. sum_by (λ k. supply_of (get_or new k no_state)) (range_with_len 0 n)) are.len
-    ∙ sum_same (λ k. supply_of (get_or new k no_state)) (λ k. cond (unit_is_up system seed sample k hour) (capacity_of system k) 0) (unit_count system)
+    sum_by-places unit_supply new no_state
+    ∙ ap (λ n. sum_by (λ k. unit_supply (get_or new k no_state)) (range_with_len 0 n)) are.len
+    ∙ sum_same (λ k. unit_supply (get_or new k no_state)) (λ k. cond (unit_is_up system seed sample k hour) (unit_capacity system k) 0) (unit_count system)
     (λ k l. ap (λ b. cond b (get_or new k no_state).capacity 0) (up k l) ∙ ap (λ n. cond (unit_is_up system seed sample k hour) n 0) ((are.each k l).capacity))
 
 -- ---- the hours so far
@@ -105,8 +105,8 @@ outcomes-more system seed sample hour = map-range_with_len_more (λ h. one_zone_
 pub more-at : (system : SystemParts) (seed sample hour : ℕ) (draws next : Draws) (units new : List UnitState) (result after : Tally) (supply unserved : ℕ) → IsAt system seed sample hour draws units result → length new ≡ length units
     → ((k : ℕ) → k < length units → get_or new k no_state ≡ state_in hour (get_or units k no_state) (draw draws.components draws.seed draws.sample hour k))
     → next ≡ record draws { place = (hour + 1) * draws.components }
-    → supply ≡ sum_by supply_of new
-    → unserved ≡ load_at system hour 0 - (supply + variable_at system hour 0)
+    → supply ≡ sum_by unit_supply new
+    → unserved ≡ hourly_load system hour 0 - (supply + hourly_variable system hour 0)
     → ((run : List HourOutcome) → result ≡ tally_of result.room 1 run → after ≡ tally_of result.room 1 (run ++ one_zone_outcome unserved ∷ []))
     → IsAt system seed sample (hour + 1) next new after
 unfolding AreUpBefore AreGone unserved_in tally_of
@@ -116,7 +116,7 @@ more-at system seed sample hour draws next units new result after supply unserve
     let up = up-in system seed sample hour units new is.states is.up gone in
     let room : result.room ≡ hour_count system = ap (λ (t : Tally). t.room) is.result_is in
     let gives : supply ≡ up_capacity system seed sample hour = supply_eq ∙ supply-is system seed sample hour new are up in
-    let left : unserved ≡ unserved_in system seed sample hour = unserved_is ∙ ap (λ s. load_at system hour 0 - (s + variable_at system hour 0)) gives in
+    let left : unserved ≡ unserved_in system seed sample hour = unserved_is ∙ ap (λ s. hourly_load system hour 0 - (s + hourly_variable system hour 0)) gives in
     let e : hour + 1 ≡ suc hour = omega arith in
     record {
       draws_are = next_is ∙ ap (λ (d : Draws). record d { place = (hour + 1) * d.components }) is.draws_are;

@@ -7,11 +7,11 @@ use Rattle.std.proofs.lemmas.List.FromFn.{fill_by_all, get_or-map-range_with_len
 use Rattle.std.proofs.lemmas.Bool.{cases_lt}
 use Rattle.sample_run.specs.declared.cut_rows.CutRow.{CutRow}
 use Rattle.sample_run.specs.declared.estimates.Sums.{Sums}
-use Rattle.sample_run.specs.CutRows.{rows_of, hours_at, unserved_at, AreRows, AddsRows, masks}
+use Rattle.sample_run.specs.CutRows.{rows_of, hours_at, cut_unserved, AreRows, AddsRows, masks}
 use Rattle.sample_run.specs.Estimates.{AreSums, no_sums, with_value}
 use Rattle.sample_run.specs.Results.{HourOutcome, short_hours, short_days, short_events, unserved_energy, zone_energy, cut_hours, cut_energy, Figures, figures_of}
 use Rattle.sample_run.specs.Totals.{Sheet, sums_of, totals_of, IsSheet}
-use Rattle.sample_run.proofs.CutRowsLemmas.{rows_are, hours_at-none, unserved_at-none, AreRows-rows_of, hours_at-rows_of, unserved_at-rows_of}
+use Rattle.sample_run.proofs.CutRowsLemmas.{rows_are, hours_at-none, cut_unserved-none, AreRows-rows_of, hours_at-rows_of, cut_unserved-rows_of}
 use Rattle.sample_run.proofs.EstimatesLemmas.{AreSums-more, AreSums-none}
 use Rattle.sample_run.proofs.ResultsLemmas.{cut_energy-none}
 
@@ -42,7 +42,7 @@ zones-none n zero = refl
 zones-none n (suc zones) = ap (λ r. no_sums ∷ r) (zones-none (n + 1) zones)
 
 rows-none : (zones : ℕ) → [] ≡ rows_of (λ (m : ℕ). sum_by (λ run. cut_hours run m) []) (λ (m : ℕ). sum_by (λ run. cut_energy run m) []) (masks zones)
-rows-none zones = rows_are (λ (m : ℕ). 0) (λ (m : ℕ). 0) 1 (2 ^ zones - 1) [] tt (λ m g l. hours_at-none m) (λ m g l. unserved_at-none m)
+rows-none zones = rows_are (λ (m : ℕ). 0) (λ (m : ℕ). 0) 1 (2 ^ zones - 1) [] tt (λ m g l. hours_at-none m) (λ m g l. cut_unserved-none m)
 
 pub totals-none : (zones : ℕ) → sheet 0 no_sums no_sums no_sums no_sums (replicate zones no_sums) [] ≡ totals_of zones []
 unfolding totals_of
@@ -68,7 +68,7 @@ IsSheet-none zones some few = record {
   zones = λ z. rw (nothing-at zones z) AreSums-none;
   rows = tt;
   row_hours = λ m. omega (arith, hours_at-none m);
-  row_unserved = λ m. omega (arith, unserved_at-none m);
+  row_unserved = λ m. omega (arith, cut_unserved-none m);
 }
 
 -- ---- one more sample
@@ -124,12 +124,12 @@ totals-more zones runs run t f zs rows more_zones more_rows is f_is =
     (λ m g l. omega (
       arith,
       adds.unserved m,
-      unserved_at-rows_of (λ k. sum_by (λ r. cut_hours r k) runs) (λ k. sum_by (λ r. cut_energy r k) runs) 1 (2 ^ zones - 1) m g l (energy-none runs m),
-      unserved_at-rows_of (cut_hours run) (cut_energy run) 1 (2 ^ zones - 1) m g l (cut_energy-none run m),
+      cut_unserved-rows_of (λ k. sum_by (λ r. cut_hours r k) runs) (λ k. sum_by (λ r. cut_energy r k) runs) 1 (2 ^ zones - 1) m g l (energy-none runs m),
+      cut_unserved-rows_of (cut_hours run) (cut_energy run) 1 (2 ^ zones - 1) m g l (cut_energy-none run m),
       sum_by_push (λ (r : List HourOutcome). cut_energy r m) runs run,
     )))
 
-pub IsSheet-more : (t : Sheet) (hours days events unserved : ℕ) (values : List ℕ) (cuts : List CutRow) (zs : List Sums) (rows : List CutRow) → IsSheet t → t.samples < 1000000 → hours ≤ 8784 → days ≤ 8784 → events ≤ 8784 → unserved ≤ 1756800000 → ((z : ℕ) → z < length t.zones → get_or values z 0 ≤ 1756800000) → ZonesMore t.zones values zs → AddsRows t.cuts cuts rows → AreRows 1 (2 ^ length t.zones) cuts → ((m : ℕ) → hours_at cuts m ≤ 8784) → ((m : ℕ) → unserved_at cuts m ≤ 1756800000)
+pub IsSheet-more : (t : Sheet) (hours days events unserved : ℕ) (values : List ℕ) (cuts : List CutRow) (zs : List Sums) (rows : List CutRow) → IsSheet t → t.samples < 1000000 → hours ≤ 8784 → days ≤ 8784 → events ≤ 8784 → unserved ≤ 1756800000 → ((z : ℕ) → z < length t.zones → get_or values z 0 ≤ 1756800000) → ZonesMore t.zones values zs → AddsRows t.cuts cuts rows → AreRows 1 (2 ^ length t.zones) cuts → ((m : ℕ) → hours_at cuts m ≤ 8784) → ((m : ℕ) → cut_unserved cuts m ≤ 1756800000)
     → IsSheet (sheet (t.samples + 1) (with_value t.hours hours) (with_value t.days days) (with_value t.events events) (with_value t.unserved unserved) zs rows)
 IsSheet-more t hours days events unserved values cuts zs rows is few h d e u vs more_zones added in_order hs us =
     let zone_is : (z : ℕ) → AreSums (get_or zs z no_sums) (t.samples + 1) = λ z.

@@ -17,8 +17,8 @@ unfoldable pub hours_at : List CutRow → ℕ → ℕ
 hours_at rows m = sum_by (λ row. if row.mask == m then row.hours else 0) rows
 
 -- the unserved energy that rows give to a mask, in MWh
-unfoldable pub unserved_at : List CutRow → ℕ → ℕ
-unserved_at rows m = sum_by (λ row. if row.mask == m then row.unserved else 0) rows
+unfoldable pub cut_unserved : List CutRow → ℕ → ℕ
+cut_unserved rows m = sum_by (λ row. if row.mask == m then row.unserved else 0) rows
 
 -- the rows have hours, and their masks are from `low` on, below `end`, and ascend
 abbrev pub AreRows : ℕ → ℕ → List CutRow → Type 0
@@ -33,5 +33,5 @@ no_row = record { mask = 0; hours = 0; unserved = 0 }
 -- rows have gained the hours and the energy of more rows, mask by mask, and are in order where both were
 pub record AddsRows (old more new : List CutRow) : Type 0 where
   pub hours : (m : ℕ) → hours_at new m ≡ hours_at old m + hours_at more m
-  pub unserved : (m : ℕ) → unserved_at new m ≡ unserved_at old m + unserved_at more m
+  pub unserved : (m : ℕ) → cut_unserved new m ≡ cut_unserved old m + cut_unserved more m
   pub ascending : (low end : ℕ) → AreRows low end old → AreRows low end more → AreRows low end new

@@ -2,7 +2,7 @@
 use Rattle.std.specs.Prelude.{ℕ, zero, suc, ◌+◌, ◌*◌, ◌^◌, Bool, not, nat_lt, if◌then◌else◌}
 use Rattle.system_model.specs.declared.components.Rates.{Rates}
 use Rattle.system_model.specs.Rates.{out_weight, up_weight}
-use Rattle.system_model.specs.System.{SystemParts, unit_count, rates_of}
+use Rattle.system_model.specs.System.{SystemParts, unit_count, unit_rates}
 use Rattle.sample_run.specs.Draw.{draw}
 
 -- whether a component is out at hour 0, which it is with its unavailability in the long run
@@ -30,4 +30,4 @@ component_count system = unit_count system
 -- whether a unit of a system is up in an hour of a sample
 unfoldable pub unit_is_up : SystemParts → ℕ → ℕ → ℕ → ℕ → Bool
 unit_is_up system seed sample unit hour =
-    is_up (rates_of system unit) (λ h. draw (component_count system) seed sample h unit) hour
+    is_up (unit_rates system unit) (λ h. draw (component_count system) seed sample h unit) hour

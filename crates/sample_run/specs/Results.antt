@@ -2,7 +2,7 @@
 use Rattle.std.specs.Prelude.{ℕ, zero, suc, ◌+◌, ◌*◌, ◌/◌, ◌^◌, ◌<◌, ◌≤◌, ◌==◌, ◌&&◌, Bool, false, not, nat_lt, List, [], ◌∷◌, length, map, sum, sum_by, count_by, slice_index, slice_index_or, Option, None, Some, if◌then◌else◌}
 use Rattle.std.specs.List.{range_with_len, list_any}
 use Rattle.sample_run.specs.declared.cut_rows.CutRow.{CutRow}
-use Rattle.sample_run.specs.CutRows.{masks, rows_of, hours_at, unserved_at, AreRows}
+use Rattle.sample_run.specs.CutRows.{masks, rows_of, hours_at, cut_unserved, AreRows}
 
 -- what an hour left: the unserved load of each zone in MW, which for an hour is as many MWh, and the cut
 pub record HourOutcome : Type 0 where
@@ -128,4 +128,4 @@ pub record IsInRange (tally : Tally) : Type 0 where
   pub few_rows : length tally.figures.cuts ≤ tally.counted
   pub rows : AreRows 1 (2 ^ length tally.figures.zones) tally.figures.cuts
   pub row_hours : (m : ℕ) → hours_at tally.figures.cuts m ≤ tally.counted
-  pub row_unserved : (m : ℕ) → unserved_at tally.figures.cuts m ≤ tally.counted * 200000
+  pub row_unserved : (m : ℕ) → cut_unserved tally.figures.cuts m ≤ tally.counted * 200000

@@ -7,7 +7,7 @@ use Rattle.sample_run.specs.declared.cut_rows.CutRow.{CutRow}
 use Rattle.sample_run.specs.declared.estimates.Sums.{Sums}
 use Rattle.sample_run.specs.declared.totals.Part.{Part}
 use Rattle.sample_run.specs.declared.totals.Part.TheVariants.{Hours, Days, Events, Unserved}
-use Rattle.sample_run.specs.CutRows.{masks, rows_of, hours_at, unserved_at, AreRows}
+use Rattle.sample_run.specs.CutRows.{masks, rows_of, hours_at, cut_unserved, AreRows}
 use Rattle.sample_run.specs.Estimates.{AreSums, no_sums}
 use Rattle.sample_run.specs.Results.{HourOutcome, short_hours, short_days, short_events, unserved_energy, zone_energy, cut_hours, cut_energy}
 
@@ -52,8 +52,8 @@ part_of sheet Events = sheet.events
 part_of sheet Unserved = sheet.unserved
 
 -- the sums of a zone
-abbrev pub zone_of : Sheet → ℕ → Sums
-zone_of sheet zone = slice_index_or sheet.zones zone no_sums
+abbrev pub zone_sums : Sheet → ℕ → Sums
+zone_sums sheet zone = slice_index_or sheet.zones zone no_sums
 
 -- the ranges of the parts of totals
 pub record IsSheet (sheet : Sheet) : Type 0 where
@@ -67,4 +67,4 @@ pub record IsSheet (sheet : Sheet) : Type 0 where
   pub zones : (z : ℕ) → AreSums (slice_index_or sheet.zones z no_sums) sheet.samples
   pub rows : AreRows 1 (2 ^ length sheet.zones) sheet.cuts
   pub row_hours : (m : ℕ) → hours_at sheet.cuts m ≤ sheet.samples * 8784
-  pub row_unserved : (m : ℕ) → unserved_at sheet.cuts m ≤ sheet.samples * 1756800000
+  pub row_unserved : (m : ℕ) → cut_unserved sheet.cuts m ≤ sheet.samples * 1756800000

@@ -26,8 +26,8 @@ state_in hour state word =
     }
 
 -- what a unit gives
-abbrev pub supply_of : UnitState → ℕ
-supply_of state = if state.is_up then state.capacity else 0
+abbrev pub unit_supply : UnitState → ℕ
+unit_supply state = if state.is_up then state.capacity else 0
 
 -- what stands past the last unit
 abbrev pub no_state : UnitState

@@ -1,5 +1,5 @@
 ghost use Rattle.std.specs.Prelude.{◌≡◌, ℕ, ◌+◌, ◌^◌, ◌<◌, ◌≤◌, [], ◌∷◌, length, vec_len, vec_capacity, slice_index_or};
-ghost use Rattle.sample_run.specs.CutRows.{hours_at, unserved_at, AddsRows, no_row};
+ghost use Rattle.sample_run.specs.CutRows.{hours_at, cut_unserved, AddsRows, no_row};
 
 /// The hours of one cut: the zones of the cut as a mask with bit `z` for zone `z`, how many hours it
 /// was the cut of, and what these hours left unserved in MWh.
@@ -31,7 +31,7 @@ fn place_of(rows: &[CutRow], mask: u32) -> usize
 /// there is none.
 pub(crate) fn add_row(rows: &mut Vec<CutRow>, more: CutRow)
     requires hours { hours_at rows.old.items more.mask + more.hours < 2 ^ 64 }
-    requires unserved { unserved_at rows.old.items more.mask + more.unserved < 2 ^ 64 }
+    requires unserved { cut_unserved rows.old.items more.mask + more.unserved < 2 ^ 64 }
     requires room { vec_len rows.old < vec_capacity rows.old }
     ensures added { AddsRows rows.old.items (more ∷ []) rows.new.items }
     ensures one_more { vec_len rows.new ≤ vec_len rows.old + 1 }
@@ -50,7 +50,7 @@ pub(crate) fn add_row(rows: &mut Vec<CutRow>, more: CutRow)
 /// Adds rows one by one.
 pub(crate) fn add_rows(rows: &mut Vec<CutRow>, more: &[CutRow])
     requires hours { (m : ℕ) → hours_at rows.old.items m + hours_at more.now m < 2 ^ 64 }
-    requires unserved { (m : ℕ) → unserved_at rows.old.items m + unserved_at more.now m < 2 ^ 64 }
+    requires unserved { (m : ℕ) → cut_unserved rows.old.items m + cut_unserved more.now m < 2 ^ 64 }
     requires room { vec_len rows.old + length more.now ≤ vec_capacity rows.old }
     ensures { AddsRows rows.old.items more.now rows.new.items }
 {

@@ -1,6 +1,6 @@
 ghost use Rattle.std.specs.Prelude.{◌≡◌, ℕ, ◌+◌, ◌*◌, ◌^◌, ◌<◌, ◌≤◌, length, slice_index_or, sum_by};
 ghost use Rattle.sample_run.specs.Draw.{draw};
-ghost use Rattle.sample_run.specs.UnitStates.{state_in, supply_of, no_state};
+ghost use Rattle.sample_run.specs.UnitStates.{state_in, unit_supply, no_state};
 
 use crate::draw::SampleStream;
 use crate::unit_states::UnitState;
@@ -15,7 +15,7 @@ pub(crate) fn up_supply(units: &mut [UnitState], draws: &mut SampleStream, hour:
     ensures states { (k : ℕ) → k < length units.old
         → slice_index_or units.new k no_state ≡ state_in hour (slice_index_or units.old k no_state) (draw draws.old.components draws.old.seed draws.old.sample hour k) }
     ensures draws { draws.new ≡ record draws.old { place = (hour + 1) * draws.old.components } }
-    ensures supply { result ≡ sum_by supply_of units.new }
+    ensures supply { result ≡ sum_by unit_supply units.new }
     ensures bound { result ≤ length units.old * 200000 }
 {
     let mut supply = 0;

@@ -1,5 +1,5 @@
 ghost use Rattle.std.specs.Prelude.{◌≡◌, ℕ, ◌+◌, ◌*◌, ◌^◌, ◌<◌, ◌≤◌, List, [], ◌∷◌, ◌++◌, not, length, slice_index, IfOk};
-ghost use Rattle.sample_run.specs.CutRows.{hours_at, unserved_at, AreRows};
+ghost use Rattle.sample_run.specs.CutRows.{hours_at, cut_unserved, AreRows};
 ghost use Rattle.sample_run.specs.Results.{HourOutcome, one_zone_outcome, is_same_day, is_next_hour, tally_of};
 
 use crate::cut_rows::{CutRow, add_row};
@@ -195,7 +195,7 @@ impl SampleResult {
         ensures value { result.now ≡ self.now.figures.cuts }
         ensures ascending { AreRows 1 (2 ^ length self.now.figures.zones) result.now }
         ensures hours { (m : ℕ) → hours_at result.now m ≤ 8784 }
-        ensures unserved { (m : ℕ) → unserved_at result.now m ≤ 1756800000 }
+        ensures unserved { (m : ℕ) → cut_unserved result.now m ≤ 1756800000 }
     {
         &self.cuts
     }

@@ -2,7 +2,7 @@ ghost use Rattle.std.specs.Prelude.{◌≡◌, ℕ, ◌+◌, ◌*◌, ◌^◌, �
 ghost use Rattle.sample_run.specs.CutRows.{AreRows};
 ghost use Rattle.sample_run.specs.Estimates.{AreSums, FitsMore, with_value, no_sums};
 ghost use Rattle.sample_run.specs.Results.{HourOutcome, figures_of};
-ghost use Rattle.sample_run.specs.Totals.{part_of, zone_of, totals_of};
+ghost use Rattle.sample_run.specs.Totals.{part_of, zone_sums, totals_of};
 
 use crate::cut_rows::{CutRow, add_rows};
 use crate::estimates::Sums;
@@ -149,7 +149,7 @@ impl Totals {
     /// The sums of a zone's unserved energy.
     pub fn zone(&self, zone: u8) -> Sums
         requires { zone < length self.now.zones }
-        ensures value { result ≡ zone_of self.now zone }
+        ensures value { result ≡ zone_sums self.now zone }
         ensures sums { AreSums result self.now.samples }
     {
         self.zones[zone as usize]

@@ -27,7 +27,7 @@ fn threshold(part: u32, whole: u32) -> u64
 
 impl UnitState {
     ghost use Rattle.system_model.specs.Rates.{AreRates};
-    ghost use Rattle.sample_run.specs.UnitStates.{IsStateOf, state_in, supply_of};
+    ghost use Rattle.sample_run.specs.UnitStates.{IsStateOf, state_in, unit_supply};
 
     const BILLION: u32 = 1_000_000_000;
 
@@ -67,7 +67,7 @@ impl UnitState {
     /// What it gives in this hour in MW.
     #[inline]
     pub fn supply(&self) -> u32
-        ensures { result ≡ supply_of self.now }
+        ensures { result ≡ unit_supply self.now }
     {
         self.capacity * u32::from(self.is_up)
     }

@@ -1,25 +1,25 @@
 use Rattle.std.proofs.Common.{ℕ, ◌<◌, ◌≤◌, length, arith}
 use Rattle.std.proofs.lemmas.List.Elements.{All-get_or}
 use Rattle.std.proofs.lemmas.List.Sums.{get_or-le-sum_by}
-use Rattle.system_model.specs.System.{SystemParts, IsHourAmong, IsValid, no_hour, hour_at, load_at, variable_at}
+use Rattle.system_model.specs.System.{SystemParts, IsHourAmong, IsValid, no_hour, hour_at, hourly_load, hourly_variable}
 
 -- no load and no variable generation is above that of all zones together
-pub load_at-le : (s : SystemParts) (hour zone : ℕ)
+pub hourly_load-le : (s : SystemParts) (hour zone : ℕ)
     → IsValid s
     → hour < length s.hours
     → zone < length s.zone_names
-    → load_at s hour zone ≤ 200000
-load_at-le s hour zone valid below among =
+    → hourly_load s hour zone ≤ 200000
+hourly_load-le s hour zone valid below among =
     let h : IsHourAmong (length s.zone_names) (hour_at s hour) =
     All-get_or (IsHourAmong (length s.zone_names)) s.hours hour no_hour below valid.within.each_hour in
     omega (arith, h.load, h.load_by_zone, get_or-le-sum_by (λ (x : ℕ). x) (hour_at s hour).load zone 0 (omega (arith, h.load_by_zone)))
 
-pub variable_at-le : (s : SystemParts) (hour zone : ℕ)
+pub hourly_variable-le : (s : SystemParts) (hour zone : ℕ)
     → IsValid s
     → hour < length s.hours
     → zone < length s.zone_names
-    → variable_at s hour zone ≤ 200000
-variable_at-le s hour zone valid below among =
+    → hourly_variable s hour zone ≤ 200000
+hourly_variable-le s hour zone valid below among =
     let h : IsHourAmong (length s.zone_names) (hour_at s hour) =
     All-get_or (IsHourAmong (length s.zone_names)) s.hours hour no_hour below valid.within.each_hour in
     omega (arith, h.variable, h.variable_by_zone, get_or-le-sum_by (λ (x : ℕ). x) (hour_at s hour).variable zone 0 (omega (arith, h.variable_by_zone)))

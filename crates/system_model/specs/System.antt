@@ -93,23 +93,23 @@ abbrev pub unit_at : SystemParts → ℕ → UnitPart
 unit_at s at = slice_index_or s.units at no_unit
 
 -- a unit's capacity in MW, its zone and its rates
-abbrev pub capacity_of : SystemParts → ℕ → ℕ
-capacity_of s at = (unit_at s at).capacity
+abbrev pub unit_capacity : SystemParts → ℕ → ℕ
+unit_capacity s at = (unit_at s at).capacity
 
-abbrev pub zone_of : SystemParts → ℕ → ℕ
-zone_of s at = (unit_at s at).zone
+abbrev pub unit_zone : SystemParts → ℕ → ℕ
+unit_zone s at = (unit_at s at).zone
 
-abbrev pub rates_of : SystemParts → ℕ → Rates
-rates_of s at = (unit_at s at).rates
+abbrev pub unit_rates : SystemParts → ℕ → Rates
+unit_rates s at = (unit_at s at).rates
 
 -- the amounts of an hour, counted from 0
 abbrev pub hour_at : SystemParts → ℕ → HourAmounts
 hour_at s hour = slice_index_or s.hours hour no_hour
 
 -- the load of a zone in an hour, in MW
-abbrev pub load_at : SystemParts → ℕ → ℕ → ℕ
-load_at s hour zone = slice_index (hour_at s hour).load zone
+abbrev pub hourly_load : SystemParts → ℕ → ℕ → ℕ
+hourly_load s hour zone = slice_index (hour_at s hour).load zone
 
 -- the variable generation of a zone in an hour, in MW
-abbrev pub variable_at : SystemParts → ℕ → ℕ → ℕ
-variable_at s hour zone = slice_index (hour_at s hour).variable zone
+abbrev pub hourly_variable : SystemParts → ℕ → ℕ → ℕ
+hourly_variable s hour zone = slice_index (hour_at s hour).variable zone

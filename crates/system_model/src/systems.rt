@@ -1,5 +1,5 @@
 ghost use Rattle.std.specs.Prelude.{◌≡◌, ◌+◌, ◌<◌, ◌≤◌, [], ◌∷◌, ◌++◌, length};
-ghost use Rattle.system_model.specs.System.{SystemParts, IsName, IsUnitAmong, IsValid, zone_count, unit_count, hour_count, unit_at, load_at, variable_at, zone_name_at, unit_name_at};
+ghost use Rattle.system_model.specs.System.{SystemParts, IsName, IsUnitAmong, IsValid, zone_count, unit_count, hour_count, unit_at, hourly_load, hourly_variable, zone_name_at, unit_name_at};
 ghost use Rattle.system_model.specs.Hourly.{parts_of, IsFilled};
 
 use crate::components::Unit;
@@ -90,7 +90,7 @@ impl System {
     pub fn load(&self, hour: u32, zone: u8) -> u32
         requires hour { hour < hour_count self.now }
         requires zone { zone < zone_count self.now }
-        ensures value { result ≡ load_at self.now hour zone }
+        ensures value { result ≡ hourly_load self.now hour zone }
         ensures range { result ≤ 200000 }
     {
         self.load[hour as usize * self.zone_names.len() + zone as usize]
@@ -100,7 +100,7 @@ impl System {
     pub fn variable(&self, hour: u32, zone: u8) -> u32
         requires hour { hour < hour_count self.now }
         requires zone { zone < zone_count self.now }
-        ensures value { result ≡ variable_at self.now hour zone }
+        ensures value { result ≡ hourly_variable self.now hour zone }
         ensures range { result ≤ 200000 }
     {
         self.variable[hour as usize * self.zone_names.len() + zone as usize]

@@ -1,5 +1,5 @@
 use Rattle.std.proofs.Common.{◌≡◌, ◌+◌, ◌-◌, length, vec_len, take, drop, ◌++◌, arith, refl, sym, ap, ◌∙◌}
-use Rattle.system_model.specs.System.{SystemParts, unit_count, hour_count, load_at, variable_at}
+use Rattle.system_model.specs.System.{SystemParts, unit_count, hour_count, hourly_load, hourly_variable}
 use Rattle.sample_run.specs.Draw.{Draws}
 use Rattle.sample_run.specs.Run.{Simulation}
 use Rattle.sample_run.proofs.Counting.{written_over}
@@ -39,10 +39,10 @@ loop-hour-preserved c =
     let long : length new ≡ length old.items = omega arith in
     let len : length old.items ≡ vec_len old = omega arith in
     let written : take (vec_len old) (new ++ drop (length new) old.items) ≡ new = written_over old.items new (vec_len old) len (long ∙ len) in
-    let load : c.load-load.result ≡ load_at c.args.self.now.system c.loop-hour.hour 0 = c.load-load.ensures.value ∙ ap (λ s. load_at s c.loop-hour.hour 0) c.loop-hour.invariant.0 in
-    let variable : c.variable.result ≡ variable_at c.args.self.now.system c.loop-hour.hour 0 = c.variable.ensures.value ∙ ap (λ s. variable_at s c.loop-hour.hour 0) c.loop-hour.invariant.0 in
-    let left : c.saturating_sub.result ≡ load_at c.args.self.now.system c.loop-hour.hour 0 - (c.up_supply-units.result + variable_at c.args.self.now.system c.loop-hour.hour 0) =
-    c.saturating_sub.ensures ∙ ap (λ n. n - (c.up_supply-units.result + c.variable.result)) load ∙ ap (λ n. load_at c.args.self.now.system c.loop-hour.hour 0 - (c.up_supply-units.result + n)) variable in
+    let load : c.load-load.result ≡ hourly_load c.args.self.now.system c.loop-hour.hour 0 = c.load-load.ensures.value ∙ ap (λ s. hourly_load s c.loop-hour.hour 0) c.loop-hour.invariant.0 in
+    let variable : c.variable.result ≡ hourly_variable c.args.self.now.system c.loop-hour.hour 0 = c.variable.ensures.value ∙ ap (λ s. hourly_variable s c.loop-hour.hour 0) c.loop-hour.invariant.0 in
+    let left : c.saturating_sub.result ≡ hourly_load c.args.self.now.system c.loop-hour.hour 0 - (c.up_supply-units.result + hourly_variable c.args.self.now.system c.loop-hour.hour 0) =
+    c.saturating_sub.ensures ∙ ap (λ n. n - (c.up_supply-units.result + c.variable.result)) load ∙ ap (λ n. hourly_load c.args.self.now.system c.loop-hour.hour 0 - (c.up_supply-units.result + n)) variable in
     let states = rw c.deref_mut.ensures.value at c.up_supply-units.ensures.states in (
       c.loop-hour.invariant.0,
       rw written (more-at c.args.self.now.system c.args.self.now.seed c.args.sample c.loop-hour.hour c.loop-hour.self-inside.draws c.up_supply-units.new.draws old.items new c.loop-hour.self-inside.result c.add_hour.new.self c.up_supply-units.result c.saturating_sub.result c.loop-hour.invariant.1 long states c.up_supply-units.ensures.draws c.up_supply-units.ensures.supply left c.add_hour.ensures.run),

@@ -1,8 +1,8 @@
 use Rattle.std.proofs.Common.{◌≡◌, ◌<◌, ◌≤◌, ◌*◌, ◌+◌, ℕ, length, ap, sym, ◌∙◌, rules, arith, subst, get_or}
 use Rattle.std.proofs.lemmas.List.{get_or_default}
-use Rattle.system_model.specs.System.{SystemParts, IsValid, hour_count, zone_count, load_at}
+use Rattle.system_model.specs.System.{SystemParts, IsValid, hour_count, zone_count, hourly_load}
 use Rattle.system_model.proofs.HourLists.{length-hours_of, place_in_range, load-hours_of}
-use Rattle.system_model.proofs.SystemReads.{load_at-le}
+use Rattle.system_model.proofs.SystemReads.{hourly_load-le}
 use Rattle.system_model.proofs.systems.System.load.Goals as goal
 
 pub index-requires : goal.index-requires
@@ -29,11 +29,11 @@ returns-clause-value c =
     ∙ get_or_default c.self.inside.load.items (c.args.hour * c.len.result + c.args.zone) c.index.result.now 0 place
     ∙ ap (λ (n : ℕ). get_or c.self.inside.load.items (c.args.hour * n + c.args.zone) 0) zones
     ∙ sym (load-hours_of (length c.self.inside.zone_names.items) c.self.inside.hours c.self.inside.load.items c.self.inside.variable.items c.args.hour c.args.zone (omega arith) (omega arith))
-    ∙ ap (λ (s : SystemParts). load_at s c.args.hour c.args.zone) c.self.view_is
+    ∙ ap (λ (s : SystemParts). hourly_load s c.args.hour c.args.zone) c.self.view_is
 
 pub returns-clause-range : goal.returns-clause-range
 returns-clause-range c =
     let valid : IsValid c.args.self.now = subst IsValid c.self.view_is c.self.invariant.1 in
-    let most : load_at c.args.self.now c.args.hour c.args.zone ≤ 200000 =
-    load_at-le c.args.self.now c.args.hour c.args.zone valid c.requires.hour c.requires.zone in
+    let most : hourly_load c.args.self.now c.args.hour c.args.zone ≤ 200000 =
+    hourly_load-le c.args.self.now c.args.hour c.args.zone valid c.requires.hour c.requires.zone in
     omega (arith, returns-clause-value c)
