@@ -48,6 +48,17 @@ impl Text {
         }
     }
 
+    /// Makes room for so many bytes more, after which pieces of that length together take no memory. The text
+    /// stays as it was, also where memory wasn't found.
+    pub fn reserve(&mut self, more: usize) -> Result<(), OutOfMemory>
+        ensures { self.new ≡ self.old }
+    {
+        match self.bytes.reserve(more) {
+            Ok(()) => Ok(()),
+            Err(_) => Err(OutOfMemory),
+        }
+    }
+
     /// The bytes.
     pub fn bytes(&self) -> &[u8]
         ensures { result.now ≡ self.now }
