@@ -10,6 +10,8 @@ fn texts_and_amounts(rt: HostRuntime) -> Result<(), Fail> {
     text.push(b" 2.4")?;
     assert_eq!(rt; text.bytes(), b"LOLE 2.4".as_slice());
     assert_eq!(rt; text.fresh().bytes().len(), 0);
+    text.push_three(b"", b" hours", b"\n")?;
+    assert_eq!(rt; text.bytes(), b"LOLE 2.4 hours\n".as_slice());
     let mut amounts = Amounts::zeros(rt.alloc(), 3)?;
     assert_eq!(rt; amounts.len(), 3);
     assert!(rt; !amounts.is_empty());

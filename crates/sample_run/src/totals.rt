@@ -85,8 +85,6 @@ fn add_zones(zones: &mut [Sums], sample: &SampleResult)
 impl Totals {
     /// The totals of no sample, for so many zones.
     pub fn new(alloc: Global, zones: u8) -> Result<Totals, OutOfMemory>
-        requires some { 0 < zones }
-        requires few { zones ≤ 32 }
         ensures empty { IfOk result (λ t. t ≡ totals_of zones []) }
         ensures zones { IfOk result (λ t. length t.zones ≡ zones) }
     {
