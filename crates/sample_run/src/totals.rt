@@ -70,7 +70,7 @@ const NOTHING: Sums = Sums {
 
 /// Adds what a result has in each zone to the zone's sums.
 fn add_zones(zones: &mut [Sums], sample: &SampleResult)
-    requires few { length zones.old ≤ 32 }
+    requires few { length zones.old < 2 ^ 8 }
     requires agree { length zones.old ≡ length sample.now.figures.zones }
     requires fits { (z : ℕ) → FitsMore (slice_index_or zones.old z no_sums) }
     ensures gained { (z : ℕ) → z < length zones.old
