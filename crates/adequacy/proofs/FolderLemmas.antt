@@ -1,71 +1,62 @@
--- What the reads of a folder's tables say of the folder.
-use Rattle.std.proofs.Common.{◌≡◌, ℕ, List, Option, Some, None, ◌<◌, length, sym, ◌∙◌, ap, arith}
-use Rattle.ra_base.specs.Outside.{Tables, table_limit}
+-- The reads of a folder, one table after another.
+use Rattle.std.proofs.Common.{◌≡◌, ℕ, ◌≤◌, List, [], ◌∷◌, ◌++◌, length, take, drop, ◌-◌, Option, Result, Ok, Err, refl, sym, ap, ◌∙◌, subst, append_assoc, arith}
+use Rattle.std.specs.Prelude.{slice_index_or}
+use Rattle.std.proofs.lemmas.List.{append-nil, take_rest}
+use Rattle.ra_base.specs.Outside.{Tables, ReadsTold}
+use Rattle.ra_base.specs.Reading.{Reading, reading}
+use Rattle.ra_base.specs.ShelfCounts.{counted}
+use Rattle.ra_base.specs.declared.shelf_counts.ShelfCounts.{ShelfCounts}
 use Rattle.ra_base.specs.declared.table.TableName.{TableName}
-use Rattle.ra_base.specs.declared.table.TableName.TheVariants.{Zones, Units, Interfaces, Lines, Storages, Load, Variable}
-use Rattle.system_model.specs.System.{SystemParts}
-use Rattle.adequacy.specs.declared.failure.TableRefusal.{TableRefusal}
-use Rattle.adequacy.specs.declared.failure.TableRefusal.TheVariants.{Missing, TooLong, NotPlain}
-use Rattle.adequacy.specs.Plain.{IsFirstNotPlain}
-use Rattle.adequacy.proofs.ReadingLaws.{one_meaning, apart}
-use Rattle.adequacy.specs.Folder.{IsThere, AreTables, IsRefusedWhereTold, IsRefused, FolderSpells}
+use Rattle.ra_base.specs.declared.table.TableName.TheVariants.{Zones}
+use Rattle.ra_base.specs.declared.table.TableBytes.{TableBytes}
+use Rattle.adequacy.specs.declared.tables.FolderError.{FolderError}
+use Rattle.adequacy.specs.Folder.{Answer, read_outcome, with_table, HasAnswered, readings, counts_after, AreTold, HasRead}
 
--- the first table that isn't plain is why the folder is refused
-pub unplain_where_told : (contents : Option Tables) (folder zones units load : List ℕ) (table : TableName) → AreTables contents folder zones units load → IsFirstNotPlain zones units load table → IsRefusedWhereTold contents folder (NotPlain table)
-unplain_where_told None folder zones units load table there first = tt
-unplain_where_told (Some tables) folder zones units load table there first = record {
-  zones = zones;
-  units = units;
-  load = load;
-  zones_there = there.zones_there;
-  units_there = there.units_there;
-  load_there = there.load_there;
-  first = first;
+-- no table is left to be read
+pub read_none : (contents : Option Tables) (folder : List ℕ) (tables : TableBytes) (reads : List Reading) (counts : ShelfCounts) → HasRead contents folder tables [] (Ok tables) reads reads counts counts
+read_none contents folder tables reads counts = record {
+  answers = [];
+  answered = (refl, refl);
+  noted = sym (append-nil reads);
+  counted = refl;
+  told = tt;
 }
 
--- one stored table has one text
-same_text : (tables : Tables) (folder : List ℕ) (table : TableName) (a b : List ℕ) → IsThere tables folder table a → IsThere tables folder table b → a ≡ b
-same_text tables folder table a b x y =
-    let both : Some a ≡ Some b = sym x.stored ∙ y.stored in
-    cc
+-- the next table's answer ends the reading
+pub reading_ends : (contents : Option Tables) (folder : List ℕ) (tables : TableBytes) (order : List TableName) (answer : Answer) (error : FolderError) (outcome : Result TableBytes FolderError) (reads reads' : List Reading) (counts counts' : ShelfCounts)
+    → 1 ≤ length order
+    → read_outcome (slice_index_or order 0 Zones) answer ≡ Err error
+    → outcome ≡ Err error
+    → reads' ≡ reads ++ reading folder (slice_index_or order 0 Zones) answer ∷ []
+    → counts' ≡ counted counts answer
+    → ReadsTold contents folder (slice_index_or order 0 Zones) answer
+    → HasRead contents folder tables order outcome reads reads' counts counts'
+reading_ends contents folder tables [] answer error outcome reads reads' counts counts' some ends is noted counted told = absurd (omega arith)
+reading_ends contents folder tables (table ∷ order) answer error outcome reads reads' counts counts' some ends is noted counted told = record {
+  answers = answer ∷ [];
+  answered = rw (ends, HasAnswered) (refl, is);
+  noted = noted;
+  counted = counted;
+  told = (told, tt);
+}
 
--- the tables of a folder spell one system
-pub FolderSpells-unique : (tables : Tables) (folder : List ℕ) (s s' : SystemParts) → FolderSpells tables folder s → FolderSpells tables folder s' → s ≡ s'
-FolderSpells-unique tables folder s s' a b =
-    one_meaning a.zones a.units a.load s s' a.spell
-    (rw (same_text tables folder Zones _ _ a.zones_there b.zones_there, same_text tables folder Units _ _ a.units_there b.units_there, same_text tables folder Load _ _ a.load_there b.load_there) b.spell)
-
--- a table that is there isn't missing or too long
-not_missing : (tables : Tables) (folder : List ℕ) (table : TableName) (text : List ℕ) → IsThere tables folder table text → tables folder table ≡ None → ⊥
-not_missing tables folder table text there none =
-    let both : Some text ≡ None = sym there.stored ∙ none in
-    cc
-
-not_too_long : (tables : Tables) (folder : List ℕ) (table : TableName) (text long : List ℕ) → IsThere tables folder table text → tables folder table ≡ Some long → table_limit < length long → ⊥
-not_too_long tables folder table text long there stored over =
-    let both : Some text ≡ Some long = sym there.stored ∙ stored in
-    let same : text ≡ long = cc in
-    let sizes : length text ≡ length long = ap (λ (t : List ℕ). length t) same in
-    let short = there.short in
-    omega arith
-
--- a folder whose tables spell a system isn't refused
-pub spelled_not_refused : (tables : Tables) (folder : List ℕ) (s : SystemParts) (r : TableRefusal) → FolderSpells tables folder s → IsRefused tables folder r → ⊥
-spelled_not_refused tables folder s (Missing Zones) a b = not_missing tables folder Zones a.zones a.zones_there b.1
-spelled_not_refused tables folder s (Missing Units) a b = not_missing tables folder Units a.units a.units_there b.1
-spelled_not_refused tables folder s (Missing Load) a b = not_missing tables folder Load a.load a.load_there b.1
-spelled_not_refused tables folder s (Missing Interfaces) a b = absurd b.0
-spelled_not_refused tables folder s (Missing Lines) a b = absurd b.0
-spelled_not_refused tables folder s (Missing Storages) a b = absurd b.0
-spelled_not_refused tables folder s (Missing Variable) a b = absurd b.0
-spelled_not_refused tables folder s (TooLong Zones) a b = not_too_long tables folder Zones a.zones b.1.0 a.zones_there b.1.1 b.1.2
-spelled_not_refused tables folder s (TooLong Units) a b = not_too_long tables folder Units a.units b.1.0 a.units_there b.1.1 b.1.2
-spelled_not_refused tables folder s (TooLong Load) a b = not_too_long tables folder Load a.load b.1.0 a.load_there b.1.1 b.1.2
-spelled_not_refused tables folder s (TooLong Interfaces) a b = absurd b.0
-spelled_not_refused tables folder s (TooLong Lines) a b = absurd b.0
-spelled_not_refused tables folder s (TooLong Storages) a b = absurd b.0
-spelled_not_refused tables folder s (TooLong Variable) a b = absurd b.0
-spelled_not_refused tables folder s (NotPlain table) a b =
-    apart b.zones b.units b.load s table
-    (rw (same_text tables folder Zones _ _ b.zones_there a.zones_there, same_text tables folder Units _ _ b.units_there a.units_there, same_text tables folder Load _ _ b.load_there a.load_there) a.spell)
-    b.first
+-- the next table's answer lets the reading go on
+pub reading_goes_on : (contents contents' : Option Tables) (folder : List ℕ) (tables : TableBytes) (order : List TableName) (answer : Answer) (text : Option (List ℕ)) (tables' : TableBytes) (outcome : Result TableBytes FolderError) (reads mid reads' : List Reading) (counts half counts' : ShelfCounts)
+    → 1 ≤ length order
+    → read_outcome (slice_index_or order 0 Zones) answer ≡ Ok text
+    → tables' ≡ with_table tables (slice_index_or order 0 Zones) text
+    → contents' ≡ contents
+    → mid ≡ reads ++ reading folder (slice_index_or order 0 Zones) answer ∷ []
+    → half ≡ counted counts answer
+    → ReadsTold contents folder (slice_index_or order 0 Zones) answer
+    → HasRead contents' folder tables' (take (length order - 1) (drop 1 order)) outcome mid reads' half counts'
+    → HasRead contents folder tables order outcome reads reads' counts counts'
+reading_goes_on contents contents' folder tables [] answer text tables' outcome reads mid reads' counts half counts' some goes set same noted counted told rest = absurd (omega arith)
+reading_goes_on contents contents' folder tables (table ∷ order) answer text tables' outcome reads mid reads' counts half counts' some goes set same noted counted told left =
+  let rest : HasRead contents' folder tables' order outcome mid reads' half counts' = subst (λ (o : List TableName). HasRead contents' folder tables' o outcome mid reads' half counts') (take_rest (table ∷ order) 1) left in record {
+  answers = answer ∷ rest.answers;
+  answered = rw (goes, HasAnswered) (subst (λ (t : TableBytes). HasAnswered t order rest.answers outcome) set rest.answered);
+  noted = rest.noted ∙ ap (λ (r : List Reading). r ++ readings folder order rest.answers) noted ∙ append_assoc reads (reading folder table answer ∷ []) (readings folder order rest.answers);
+  counted = rest.counted ∙ ap (λ (c : ShelfCounts). counts_after c rest.answers) counted;
+  told = (told, subst (λ (c : Option Tables). AreTold c folder order rest.answers) same rest.told);
+}

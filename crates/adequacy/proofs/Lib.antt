@@ -1,11 +1,1 @@
-pub mod AnswerLemmas
-pub mod FieldLaws
 pub mod FolderLemmas
-pub mod PlainAnswers
-pub mod PlainNumbers
-pub mod ReadingLaws
-pub mod RowLaws
-pub mod StudyLemmas
-pub mod TableLaws
-pub mod TableSteps
-pub mod TextLemmas

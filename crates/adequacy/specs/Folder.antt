@@ -1,125 +1,148 @@
--- What a folder of tables holds: a system, or the first reason why it holds none.
-use Rattle.std.specs.Prelude.{◌≡◌, ◌<◌, ◌≤◌, ℕ, List, Option, Some, None, Result, Ok, Err, length, Bool, true, false, ⊤}
-use Rattle.ra_base.specs.Causes.{Rose}
-use Rattle.ra_base.specs.Outside.{Tables, table_limit}
+-- A folder of tables: what the reads of a shelf have answered, and the system or the refusal that they come to.
+use Rattle.std.specs.Prelude.{◌≡◌, ◌⊎◌, ◌<◌, ◌≤◌, ℕ, nat_le, Bool, true, false, List, [], ◌∷◌, ◌++◌, length, Option, Some, None, Result, Ok, Err, if◌then◌else◌}
+use Rattle.ra_base.specs.declared.limits.TheConstants.{MOST_TABLE_BYTES}
+use Rattle.ra_base.specs.Outside.{Tables, ReadsTold}
+use Rattle.ra_base.specs.Reading.{Reading, reading}
+use Rattle.ra_base.specs.ShelfCounts.{counted}
+use Rattle.ra_base.specs.declared.shelf_counts.ShelfCounts.{ShelfCounts}
+use Rattle.ra_base.specs.declared.shelf.ShelfError.{ShelfError}
+use Rattle.ra_base.specs.declared.shelf.ShelfError.TheVariants.{Missing as NoTable, TooLong as LongTable, Fault as ReadFailed, OutOfMemory as NoRoom}
 use Rattle.ra_base.specs.declared.table.TableName.{TableName}
 use Rattle.ra_base.specs.declared.table.TableName.TheVariants.{Zones, Units, Interfaces, Lines, Storages, Load, Variable}
+use Rattle.ra_base.specs.declared.table.TableBytes.{TableBytes}
 use Rattle.system_model.specs.System.{SystemParts}
-use Rattle.adequacy.specs.declared.failure.TableRefusal.{TableRefusal}
-use Rattle.adequacy.specs.declared.failure.TableRefusal.TheVariants.{Missing, TooLong, NotPlain}
-use Rattle.adequacy.specs.declared.failure.Failure.{Failure}
-use Rattle.adequacy.specs.declared.failure.Failure.TheVariants.{Words, Tables as TablesRefused, Shelf, Sink, Memory}
-use Rattle.adequacy.specs.Plain.{Spell, IsFirstNotPlain}
+use Rattle.system_tables.specs.Outcome.{system_of}
+use Rattle.system_tables.specs.declared.TableFault.{TableFault}
+use Rattle.adequacy.specs.declared.tables.Refusal.{Refusal}
+use Rattle.adequacy.specs.declared.tables.Refusal.TheVariants.{Missing, TooLong, Fault}
+use Rattle.adequacy.specs.declared.tables.FolderError.{FolderError}
+use Rattle.adequacy.specs.declared.tables.FolderError.TheVariants.{Refused, ReadFault, OutOfMemory}
 
--- a table is there, not too long, and has these bytes
-pub record IsThere (tables : Tables) (folder : List ℕ) (table : TableName) (text : List ℕ) : Type 0 where
-  pub stored : tables folder table ≡ Some text
-  pub short : length text ≤ table_limit
+-- the answer of one read: the table's bytes, or why there are none
+abbrev pub Answer : Type 0
+Answer = Result (List ℕ) ShelfError
 
--- a folder's tables are plain and spell a system
-pub record FolderSpells (tables : Tables) (folder : List ℕ) (system : SystemParts) : Type 0 where
-  pub zones : List ℕ
-  pub units : List ℕ
-  pub load : List ℕ
-  pub zones_there : IsThere tables folder Zones zones
-  pub units_there : IsThere tables folder Units units
-  pub load_there : IsThere tables folder Load load
-  pub spell : Spell zones units load system
+-- the tables in the order in which they are read
+abbrev pub table_order : List TableName
+table_order = Zones ∷ Units ∷ Interfaces ∷ Lines ∷ Storages ∷ Load ∷ Variable ∷ []
 
--- the tables that are read before a table are there
-abbrev pub EarlierThere : Tables → List ℕ → TableName → Type 0
-EarlierThere tables folder Zones = ⊤
-EarlierThere tables folder Units = (zones : List ℕ) × IsThere tables folder Zones zones
-EarlierThere tables folder Load =
-    ((zones : List ℕ) × IsThere tables folder Zones zones) × ((units : List ℕ) × IsThere tables folder Units units)
-EarlierThere tables folder Interfaces = ⊥
-EarlierThere tables folder Lines = ⊥
-EarlierThere tables folder Storages = ⊥
-EarlierThere tables folder Variable = ⊥
+-- a table that a system can do without: where it is missing it has no rows
+abbrev pub can_be_missing : TableName → Bool
+can_be_missing Zones = false
+can_be_missing Units = false
+can_be_missing Interfaces = true
+can_be_missing Lines = true
+can_be_missing Storages = true
+can_be_missing Load = false
+can_be_missing Variable = true
 
--- the tables are there, and this one is the first that isn't plain
-pub record IsUnplain (tables : Tables) (folder : List ℕ) (table : TableName) : Type 0 where
-  pub zones : List ℕ
-  pub units : List ℕ
-  pub load : List ℕ
-  pub zones_there : IsThere tables folder Zones zones
-  pub units_there : IsThere tables folder Units units
-  pub load_there : IsThere tables folder Load load
-  pub first : IsFirstNotPlain zones units load table
+-- what an answer comes to: the table's bytes, or that there is none where it may be missing, or why the folder
+-- gives no system
+abbrev pub read_outcome : TableName → Answer → Result (Option (List ℕ)) FolderError
+read_outcome table (Ok text) = Ok (Some text)
+read_outcome table (Err NoTable) = if can_be_missing table then Ok None else Err (Refused (Missing table))
+read_outcome table (Err LongTable) = Err (Refused (TooLong table))
+read_outcome table (Err ReadFailed) = Err ReadFault
+read_outcome table (Err NoRoom) = Err OutOfMemory
 
--- a folder is refused for this reason: the first of zones, units and load that is missing or too long,
--- or the first that isn't plain where all are there
-abbrev pub IsRefused : Tables → List ℕ → TableRefusal → Type 0
-IsRefused tables folder (Missing table) = EarlierThere tables folder table × (tables folder table ≡ None)
-IsRefused tables folder (TooLong table) =
-    EarlierThere tables folder table × ((text : List ℕ) × (tables folder table ≡ Some text) × (table_limit < length text))
-IsRefused tables folder (NotPlain table) = IsUnplain tables folder table
+-- no table yet
+abbrev pub no_tables : TableBytes
+no_tables =
+    record {
+      zones = None;
+      units = None;
+      interfaces = None;
+      lines = None;
+      storages = None;
+      load = None;
+      variable = None;
+    }
 
--- the system is that of the folder where the shelf tells its tables, else that of some plain tables
-abbrev pub IsSystemOf : Option Tables → List ℕ → SystemParts → Type 0
-IsSystemOf None folder system = (zones : List ℕ) × (units : List ℕ) × (load : List ℕ) × Spell zones units load system
-IsSystemOf (Some tables) folder system = FolderSpells tables folder system
+-- the tables with one of them set
+abbrev pub with_table : TableBytes → TableName → Option (List ℕ) → TableBytes
+with_table tables Zones text = record tables { zones = text }
+with_table tables Units text = record tables { units = text }
+with_table tables Interfaces text = record tables { interfaces = text }
+with_table tables Lines text = record tables { lines = text }
+with_table tables Storages text = record tables { storages = text }
+with_table tables Load text = record tables { load = text }
+with_table tables Variable text = record tables { variable = text }
 
--- the folder is refused for this reason where the shelf tells its tables
-abbrev pub IsRefusedWhereTold : Option Tables → List ℕ → TableRefusal → Type 0
-IsRefusedWhereTold None folder refusal = ⊤
-IsRefusedWhereTold (Some tables) folder refusal = IsRefused tables folder refusal
+-- tables of this order were read with these answers, up to the first that ends the reading, and this is what came of
+-- them on top of the tables before
+abbrev pub HasAnswered : TableBytes → List TableName → List Answer → Result TableBytes FolderError → Type 0
+HasAnswered tables [] answers outcome = (answers ≡ []) × (outcome ≡ Ok tables)
+HasAnswered tables (table ∷ order) [] outcome = ⊥
+HasAnswered tables (table ∷ order) (answer ∷ answers) outcome =
+    elim (read_outcome table answer) [
+      Ok text ↦ HasAnswered (with_table tables table text) order answers outcome
+    | Err error ↦ (answers ≡ []) × (outcome ≡ Err error)
+    ]
 
--- what shows a reason, told or not: the count of misses or of tables too long rose, or tables that were
--- read aren't plain
-abbrev pub IsShown : ℕ → ℕ → ℕ → ℕ → TableRefusal → Type 0
-IsShown misses misses' overlong overlong' (Missing table) = Rose misses misses'
-IsShown misses misses' overlong overlong' (TooLong table) = Rose overlong overlong'
-IsShown misses misses' overlong overlong' (NotPlain table) =
-    (zones : List ℕ) × (units : List ℕ) × (load : List ℕ) × IsFirstNotPlain zones units load table
+-- the reads of a folder with these answers, one table after another
+abbrev pub readings : List ℕ → List TableName → List Answer → List Reading
+readings folder order [] = []
+readings folder [] (answer ∷ answers) = []
+readings folder (table ∷ order) (answer ∷ answers) = reading folder table answer ∷ readings folder order answers
 
--- why a folder gives no system: its tables are refused, a read failed, or memory wasn't found
-abbrev pub IsFolderReason : Option Tables → List ℕ → ℕ → ℕ → ℕ → ℕ → Failure → Type 0
-IsFolderReason contents folder misses misses' overlong overlong' Words = ⊥
-IsFolderReason contents folder misses misses' overlong overlong' (TablesRefused refusal) =
-    IsRefusedWhereTold contents folder refusal × IsShown misses misses' overlong overlong' refusal
-IsFolderReason contents folder misses misses' overlong overlong' Shelf = ⊤
-IsFolderReason contents folder misses misses' overlong overlong' Sink = ⊥
-IsFolderReason contents folder misses misses' overlong overlong' Memory = ⊤
+-- the counts of a shelf after reads with these answers
+abbrev pub counts_after : ShelfCounts → List Answer → ShelfCounts
+counts_after counts [] = counts
+counts_after counts (answer ∷ answers) = counts_after (counted counts answer) answers
 
--- whether a read failed
-abbrev pub is_shelf_failure : {T : Type 0} → Result T Failure → Bool
-is_shelf_failure (Ok value) = false
-is_shelf_failure (Err Words) = false
-is_shelf_failure (Err (TablesRefused refusal)) = false
-is_shelf_failure (Err Shelf) = true
-is_shelf_failure (Err Sink) = false
-is_shelf_failure (Err Memory) = false
+-- where the shelf tells its tables, each answer is that of the stored table
+abbrev pub AreTold : Option Tables → List ℕ → List TableName → List Answer → Type 0
+AreTold contents folder order [] = Unit {0}
+AreTold contents folder [] (answer ∷ answers) = Unit {0}
+AreTold contents folder (table ∷ order) (answer ∷ answers) =
+    ReadsTold contents folder table answer × AreTold contents folder order answers
 
--- where the shelf tells its tables, this one is there with these bytes
-abbrev pub IsThereWhereTold : Option Tables → List ℕ → TableName → List ℕ → Type 0
-IsThereWhereTold None folder table text = ⊤
-IsThereWhereTold (Some tables) folder table text = IsThere tables folder table text
+-- the tables of a folder in this order were read with these answers, and this is what came of them on top of the
+-- tables before; the shelf has noted and counted just these reads
+pub record HasRead (contents : Option Tables) (folder : List ℕ) (tables : TableBytes) (order : List TableName) (outcome : Result TableBytes FolderError) (reads reads' : List Reading) (counts counts' : ShelfCounts) : Type 0 where
+  pub answers : List Answer
+  pub answered : HasAnswered tables order answers outcome
+  pub noted : reads' ≡ reads ++ readings folder order answers
+  pub counted : counts' ≡ counts_after counts answers
+  pub told : AreTold contents folder order answers
 
--- where the shelf tells its tables, it has none such, or it is too long
-abbrev pub IsAbsentWhereTold : Option Tables → List ℕ → TableName → Type 0
-IsAbsentWhereTold None folder table = ⊤
-IsAbsentWhereTold (Some tables) folder table = tables folder table ≡ None
+-- what tables come to: the system that they spell, or their first fault
+abbrev pub tables_outcome : Result SystemParts TableFault → Result SystemParts FolderError
+tables_outcome (Ok system) = Ok system
+tables_outcome (Err fault) = Err (Refused (Fault fault))
 
-abbrev pub IsTooLongWhereTold : Option Tables → List ℕ → TableName → Type 0
-IsTooLongWhereTold None folder table = ⊤
-IsTooLongWhereTold (Some tables) folder table =
-    (text : List ℕ) × (tables folder table ≡ Some text) × (table_limit < length text)
+-- what a folder comes to, by what its reads came to: the system that its tables spell, or why it gives none
+abbrev pub folder_outcome : Result TableBytes FolderError → Result SystemParts FolderError
+folder_outcome (Ok tables) = tables_outcome (system_of tables)
+folder_outcome (Err error) = Err error
 
--- why one table isn't there
-abbrev pub IsTableReason : Option Tables → List ℕ → TableName → ℕ → ℕ → ℕ → ℕ → Failure → Type 0
-IsTableReason contents folder table misses misses' overlong overlong' (TablesRefused (Missing t)) =
-    (t ≡ table) × IsAbsentWhereTold contents folder table × Rose misses misses'
-IsTableReason contents folder table misses misses' overlong overlong' (TablesRefused (TooLong t)) =
-    (t ≡ table) × IsTooLongWhereTold contents folder table × Rose overlong overlong'
-IsTableReason contents folder table misses misses' overlong overlong' (TablesRefused (NotPlain t)) = ⊥
-IsTableReason contents folder table misses misses' overlong overlong' Words = ⊥
-IsTableReason contents folder table misses misses' overlong overlong' Shelf = ⊤
-IsTableReason contents folder table misses misses' overlong overlong' Sink = ⊥
-IsTableReason contents folder table misses misses' overlong overlong' Memory = ⊤
+-- the answer of a read that finds what is stored
+abbrev pub stored_answer : Option (List ℕ) → Answer
+stored_answer None = Err NoTable
+stored_answer (Some text) = if nat_le (length text) MOST_TABLE_BYTES then Ok text else Err LongTable
 
--- the three tables that are read
-pub record AreTables (contents : Option Tables) (folder zones units load : List ℕ) : Type 0 where
-  pub zones_there : IsThereWhereTold contents folder Zones zones
-  pub units_there : IsThereWhereTold contents folder Units units
-  pub load_there : IsThereWhereTold contents folder Load load
+-- what the stored tables of a folder in this order come to, on top of the tables before
+abbrev pub stored_from : Tables → List ℕ → List TableName → TableBytes → Result TableBytes FolderError
+stored_from stored folder [] tables = Ok tables
+stored_from stored folder (table ∷ order) tables =
+    elim (read_outcome table (stored_answer (stored folder table))) [
+      Ok text ↦ stored_from stored folder order (with_table tables table text)
+    | Err error ↦ Err error
+    ]
+
+-- what the stored tables of a folder come to
+unfoldable pub stored_tables : Tables → List ℕ → Result TableBytes FolderError
+stored_tables stored folder = stored_from stored folder table_order no_tables
+
+-- the stored tables of a folder spell this system
+abbrev pub FolderSpells : Tables → List ℕ → SystemParts → Type 0
+FolderSpells stored folder system = folder_outcome (stored_tables stored folder) ≡ Ok system
+
+-- the stored tables of a folder are refused for this reason: the first of them in their order that is missing or too
+-- long, or else their first fault
+abbrev pub IsRefused : Tables → List ℕ → Refusal → Type 0
+IsRefused stored folder refusal = folder_outcome (stored_tables stored folder) ≡ Err (Refused refusal)
+
+-- the reads of a folder came to these tables or an error, and they came to this
+abbrev pub ComesTo : Result TableBytes FolderError → Result SystemParts FolderError → Type 0
+ComesTo tables outcome = (outcome ≡ folder_outcome tables) ⊎ (outcome ≡ Err OutOfMemory)

@@ -1,44 +1,58 @@
 -- What the words of the command line ask for.
-use Rattle.std.specs.Prelude.{ℕ, ◌^◌, ◌&&◌, Bool, nat_lt, nat_le, List, [], ◌∷◌, length, codes, Option, None, Some, if◌then◌else◌}
-use Rattle.std.specs.Str.{bytes_eq, all_ascii_digits}
-use Rattle.std.specs.Str.Parse.{digits_value}
+use Rattle.std.specs.Prelude.{ℕ, ◌&&◌, Bool, nat_le, List, [], ◌∷◌, codes, Option, None, Some, Result, Ok, Err, if◌then◌else◌}
+use Rattle.std.specs.Str.{bytes_eq}
+use Rattle.ra_base.specs.declared.limits.TheConstants.{MOST_SAMPLES}
+use Rattle.decimal_text.specs.declared.fault.NumberFault.{NumberFault}
+use Rattle.decimal_text.specs.Reading.{whole_of}
+use Rattle.adequacy.specs.declared.words.TheConstants.{MOST_SEED, DEFAULT_SEED}
+use Rattle.adequacy.specs.declared.words.Command.{Command}
+use Rattle.adequacy.specs.declared.words.Command.TheVariants.{Check, Study}
 
--- a study: the folder's name, the number of samples and the seed
-pub record Study : Type 0 where
+-- a folder of tables, and what is asked of its system
+pub record Line : Type 0 where
   pub folder : List ℕ
-  pub samples : ℕ
-  pub seed : ℕ
+  pub command : Command
 
--- whether a word is 1 to `most` digits
-abbrev pub is_numeral : ℕ → List ℕ → Bool
-is_numeral most word = nat_lt 0 (length word) && nat_le (length word) most && all_ascii_digits word
+-- the value that was read, where it lies between two bounds
+abbrev pub within : ℕ → ℕ → Result ℕ NumberFault → Option ℕ
+within least most (Ok value) = if nat_le least value && nat_le value most then Some value else None
+within least most (Err fault) = None
 
--- the value of such a word, where it is from `least` to `greatest`
-abbrev pub number_of : ℕ → ℕ → ℕ → List ℕ → Option ℕ
-number_of most least greatest word =
-    if is_numeral most word && nat_le least (digits_value 10 word) && nat_le (digits_value 10 word) greatest
-    then Some (digits_value 10 word)
-    else None
-
--- the number of samples has 1 to 7 digits and is from 1 to 1,000,000
-abbrev pub samples_of : List ℕ → Option ℕ
-samples_of word = number_of 7 1 1000000 word
-
--- the seed has 1 to 19 digits and is at most 10^18
-abbrev pub seed_of : List ℕ → Option ℕ
-seed_of word = number_of 19 0 (10 ^ 18) word
+-- the seed is 1 where no option names it, else a whole number up to 10^18
+abbrev pub seed_of : List (List ℕ) → Option ℕ
+seed_of [] = Some DEFAULT_SEED
+seed_of (name ∷ value ∷ []) = if bytes_eq name (codes "--seed") then within 0 MOST_SEED (whole_of value) else None
+seed_of _ = None
 
 -- a study where both numbers are there
-abbrev pub study_with : List ℕ → Option ℕ → Option ℕ → Option Study
-study_with folder (Some samples) (Some seed) = Some (record { folder = folder; samples = samples; seed = seed })
-study_with folder (Some samples) None = None
-study_with folder None seed = None
+abbrev pub study_with : Option ℕ → Option ℕ → Option Command
+study_with (Some samples) (Some seed) = Some (Study samples seed)
+study_with (Some samples) None = None
+study_with None seed = None
 
--- the study that the words ask for: `study`, a folder, `--samples` with its value and `--seed` with its value.
--- Any other words ask for nothing
-abbrev pub study_of : List (List ℕ) → Option Study
-study_of (command ∷ folder ∷ first ∷ samples ∷ second ∷ seed ∷ []) =
-    if bytes_eq command (codes "study") && bytes_eq first (codes "--samples") && bytes_eq second (codes "--seed")
-    then study_with folder (samples_of samples) (seed_of seed)
-    else None
+-- a study names its samples, 1 to 1,000,000, and then perhaps its seed
+abbrev pub study_of : List (List ℕ) → Option Command
+study_of (name ∷ value ∷ rest) =
+    if bytes_eq name (codes "--samples") then study_with (within 1 MOST_SAMPLES (whole_of value)) (seed_of rest) else None
 study_of _ = None
+
+-- a check has no option
+abbrev pub check_of : List (List ℕ) → Option Command
+check_of [] = Some Check
+check_of _ = None
+
+-- the command of a name with its options
+abbrev pub command_of : List ℕ → List (List ℕ) → Option Command
+command_of name options =
+    if bytes_eq name (codes "check") then check_of options
+    else if bytes_eq name (codes "study") then study_of options
+    else None
+
+abbrev pub line_with : List ℕ → Option Command → Option Line
+line_with folder (Some command) = Some (record { folder = folder; command = command })
+line_with folder None = None
+
+-- the line that the words spell: a command, a folder and the command's options. Other words spell none
+abbrev pub line_of : List (List ℕ) → Option Line
+line_of (command ∷ folder ∷ options) = line_with folder (command_of command options)
+line_of _ = None

@@ -1,82 +1,100 @@
 //! The words of the command line, read by hand.
-ghost use Rattle.std.specs.Prelude.{◌≡◌, ◌<◌, ◌≤◌, map, length, IfSome, IsTrue};
+ghost use Rattle.std.specs.Prelude.{◌≡◌, ℕ, ◌≤◌, ◌<◌, map, IfSome};
 ghost use Rattle.std.specs.Option.{option_map};
 ghost use Rattle.std.specs.String.{string_bytes};
-ghost use Rattle.std.specs.Str.{all_ascii_digits};
-ghost use Rattle.std.specs.Str.Parse.{digits_value};
-ghost use Rattle.adequacy.specs.Words.{study_of, number_of, is_numeral};
+ghost use Rattle.adequacy.specs.Words.{line_of, command_of, study_of, seed_of, within};
+ghost use Rattle.decimal_text.specs.Reading.{whole_of};
 
-/// What a study is asked to do.
-#[derive(Clone, Copy)]
-pub struct StudyWords<'a> {
-    /// The folder of the tables.
-    pub folder: &'a str,
-    /// The number of samples, 1 to 1,000,000.
-    pub samples: u32,
-    /// The seed of the draws, at most 10^18.
-    pub seed: u64,
+use decimal_text::read_whole;
+use ra_base::limits::MOST_SAMPLES;
+
+/// The greatest seed, and the greatest value of a numeral.
+pub const MOST_SEED: u64 = 1_000_000_000_000_000_000;
+
+/// The seed of a study whose words name none.
+pub const DEFAULT_SEED: u64 = 1;
+
+/// What the program is asked to do with the system of a folder.
+#[derive(Clone, Copy, Debug, PartialEq, Eq)]
+pub enum Command {
+    /// To tell how large it is.
+    Check,
+    /// To simulate this number of samples, 1 to 1,000,000, under a seed of at most 10^18.
+    Study { samples: u32, seed: u64 },
 }
 
-/// The study that the words ask for, or `None` where they aren't of its form.
-pub fn read_study(words: &[String]) -> Option<StudyWords<'_>>
-    ensures study { option_map (λ s. record { folder = s.folder.now; samples = s.samples; seed = s.seed }) result ≡ study_of (map string_bytes words.now) }
-    ensures samples { IfSome result (λ s. s.samples ≤ 1000000) }
+/// What the words ask for.
+#[derive(Clone, Copy, Debug)]
+pub struct Line<'a> {
+    /// The folder of the tables.
+    pub folder: &'a str,
+    /// What is asked of its system.
+    pub command: Command,
+}
+
+/// The line that the words spell: a command, a folder and the command's options in their order, each as its
+/// name and its value. `None` where they spell none.
+pub fn read_line(words: &[String]) -> Option<Line<'_>>
+    ensures { option_map (λ l. record { folder = l.folder.now; command = l.command }) result
+        ≡ line_of (map string_bytes words.now) }
 {
-    let [command, folder, first, samples, second, seed] = words else {
+    let [command, folder, options @ ..] = words else {
         return None;
     };
-    if command.as_str() != "study" || first.as_str() != "--samples" || second.as_str() != "--seed" {
+    let command = read_command(command.as_str(), options)?;
+    Some(Line {
+        folder: folder.as_str(),
+        command,
+    })
+}
+
+// The command of a name with its options.
+fn read_command(name: &str, options: &[String]) -> Option<Command>
+    ensures { result ≡ command_of name.now (map string_bytes options.now) }
+{
+    match name {
+        "check" if options.is_empty() => Some(Command::Check),
+        "study" => read_study(options),
+        _ => None,
+    }
+}
+
+// The samples and the seed of a study.
+fn read_study(options: &[String]) -> Option<Command>
+    ensures { result ≡ study_of (map string_bytes options.now) }
+{
+    let [name, value, rest @ ..] = options else {
+        return None;
+    };
+    if name.as_str() != "--samples" {
         return None;
     }
-    let samples = number(samples.as_str(), 7, 1, 1_000_000)?;
-    let seed = number(seed.as_str(), 19, 0, 1_000_000_000_000_000_000)?;
-    Some(StudyWords {
-        folder: folder.as_str(),
+    let samples = read_within(value.as_str(), 1, u64::from(MOST_SAMPLES))?;
+    let seed = read_seed(rest)?;
+    Some(Command::Study {
         samples: samples as u32,
         seed,
     })
 }
 
-// The value of a word of 1 to `most` digits, where it is from `least` to `greatest`.
-fn number(word: &str, most: usize, least: u64, greatest: u64) -> Option<u64>
-    requires { most ≤ 19 }
-    ensures value { result ≡ number_of most least greatest word.now }
-    ensures range { IfSome result (λ n. n ≤ greatest) }
+// The seed, or its default where there is no such option.
+fn read_seed(options: &[String]) -> Option<u64>
+    ensures { result ≡ seed_of (map string_bytes options.now) }
 {
-    if !is_short_numeral(word, most) {
-        return None;
-    }
-    let value = value_of(word);
-    if least <= value && value <= greatest {
-        Some(value)
-    } else {
-        None
+    match options {
+        [] => Some(DEFAULT_SEED),
+        [name, value] if name.as_str() == "--seed" => read_within(value.as_str(), 0, MOST_SEED),
+        _ => None,
     }
 }
 
-fn is_short_numeral(word: &str, most: usize) -> bool
-    ensures { result ≡ is_numeral most word.now }
+// A whole value between two bounds.
+fn read_within(word: &str, least: u64, most: u64) -> Option<u64>
+    ensures value { result ≡ within least most (whole_of word.now) }
+    ensures range { IfSome result (λ value. value ≤ most) }
 {
-    !word.is_empty() && word.len() <= most && are_digits(word.as_bytes())
-}
-
-pub(crate) fn are_digits(bytes: &[u8]) -> bool
-    ensures { result ≡ all_ascii_digits bytes.now }
-{
-    for byte in bytes {
-        if !byte.is_ascii_digit() {
-            return false;
-        }
+    match read_whole(word.as_bytes()) {
+        Ok(value) if least <= value && value <= most => Some(value),
+        _ => None,
     }
-    true
-}
-
-// What digits spell, which fits 64 bits since there are at most 19.
-fn value_of(digits: &str) -> u64
-    requires digits { IsTrue (all_ascii_digits digits.now) }
-    requires some { 0 < length digits.now }
-    requires few { length digits.now ≤ 19 }
-    ensures { result ≡ digits_value 10 digits.now }
-{
-    digits.parse::<u64>().unwrap()
 }
