@@ -1,8 +1,10 @@
 -- The reads of a folder, one table after another.
-use Rattle.std.proofs.Common.{◌≡◌, ℕ, ◌≤◌, List, [], ◌∷◌, ◌++◌, length, take, drop, ◌-◌, Option, Result, Ok, Err, refl, sym, ap, ◌∙◌, subst, append_assoc, arith}
-use Rattle.std.specs.Prelude.{slice_index_or}
+use Rattle.std.proofs.Common.{◌≡◌, ℕ, ◌≤◌, List, [], ◌∷◌, ◌++◌, length, take, drop, ◌-◌, Option, None, Bool, true, false, Result, Ok, Err, refl, sym, ap, ◌∙◌, subst, append_assoc, arith}
+use Rattle.std.specs.Prelude.{slice_index_or, if◌then◌else◌}
 use Rattle.std.proofs.lemmas.List.{append-nil, take_rest}
+use Rattle.ra_base.specs.Causes.{Counts}
 use Rattle.ra_base.specs.Outside.{Tables, ReadsTold}
+use Rattle.ra_base.specs.declared.shelf.ShelfError.TheVariants.{Missing as NoTable, TooLong as LongTable, Fault as ReadFailed, OutOfMemory as NoRoom}
 use Rattle.ra_base.specs.Reading.{Reading, reading}
 use Rattle.ra_base.specs.ShelfCounts.{counted}
 use Rattle.ra_base.specs.declared.shelf_counts.ShelfCounts.{ShelfCounts}
@@ -10,7 +12,9 @@ use Rattle.ra_base.specs.declared.table.TableName.{TableName}
 use Rattle.ra_base.specs.declared.table.TableName.TheVariants.{Zones}
 use Rattle.ra_base.specs.declared.table.TableBytes.{TableBytes}
 use Rattle.adequacy.specs.declared.tables.FolderError.{FolderError}
-use Rattle.adequacy.specs.Folder.{Answer, read_outcome, with_table, HasAnswered, readings, counts_after, AreTold, HasRead}
+use Rattle.adequacy.specs.declared.tables.FolderError.TheVariants.{Refused, ReadFault, OutOfMemory}
+use Rattle.adequacy.specs.declared.tables.Refusal.TheVariants.{Missing, TooLong}
+use Rattle.adequacy.specs.Folder.{Answer, read_outcome, with_table, HasAnswered, readings, counts_after, AreTold, HasRead, can_be_missing, is_read_failure}
 
 -- no table is left to be read
 pub read_none : (contents : Option Tables) (folder : List ℕ) (tables : TableBytes) (reads : List Reading) (counts : ShelfCounts) → HasRead contents folder tables [] (Ok tables) reads reads counts counts
@@ -60,3 +64,19 @@ reading_goes_on contents contents' folder tables (table ∷ order) answer text t
   counted = rest.counted ∙ ap (λ (c : ShelfCounts). counts_after c rest.answers) counted;
   told = (told, subst (λ (c : Option Tables). AreTold c folder order rest.answers) same rest.told);
 }
+
+-- a table that may not be missing is refused
+missing_refused : (b : Bool) (table : TableName) (error : FolderError) (outcome : Result (Option (List ℕ)) FolderError) → outcome ≡ (if b then Ok None else Err (Refused (Missing table))) → outcome ≡ Err error → error ≡ Refused (Missing table)
+missing_refused true table error outcome is e = absurd (cc)
+missing_refused false table error outcome is e = cc
+
+-- an answer that ends the reading is counted as a fault exactly where it is one
+pub ending_counted : (table : TableName) (answer : Answer) (error : FolderError) (counts : ShelfCounts) → read_outcome table answer ≡ Err error → Counts (is_read_failure {T = TableBytes} (Err error)) counts.faults (counted counts answer).faults
+ending_counted table (Ok text) error counts e = absurd (cc)
+ending_counted table (Err NoTable) error counts e = rw (missing_refused (can_be_missing table) table error (read_outcome table (Err NoTable)) refl e) refl
+ending_counted table (Err LongTable) error counts e =
+    let is : error ≡ Refused (TooLong table) = cc in rw is refl
+ending_counted table (Err ReadFailed) error counts e =
+    let is : error ≡ ReadFault = cc in rw is (omega arith, omega arith)
+ending_counted table (Err NoRoom) error counts e =
+    let is : error ≡ OutOfMemory = cc in rw is refl

@@ -146,3 +146,10 @@ IsRefused stored folder refusal = folder_outcome (stored_tables stored folder) �
 -- the reads of a folder came to these tables or an error, and they came to this
 abbrev pub ComesTo : Result TableBytes FolderError → Result SystemParts FolderError → Type 0
 ComesTo tables outcome = (outcome ≡ folder_outcome tables) ⊎ (outcome ≡ Err OutOfMemory)
+
+-- whether a read failed
+abbrev pub is_read_failure : {T : Type 0} → Result T FolderError → Bool
+is_read_failure (Ok value) = false
+is_read_failure (Err (Refused refusal)) = false
+is_read_failure (Err ReadFault) = true
+is_read_failure (Err OutOfMemory) = false

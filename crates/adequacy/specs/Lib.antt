@@ -1,2 +1,7 @@
+pub mod CheckText
+pub mod Commands
+pub mod Endings
+pub mod FaultText
 pub mod Folder
+pub mod TotalsText
 pub mod Words

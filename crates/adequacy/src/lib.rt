@@ -1,8 +1,14 @@
 //! Resource adequacy of a power system, from the words of a command line to the bytes of an answer.
 #![tactic(auto)]
 
+mod commands;
+mod endings;
+pub mod report_text;
+mod studies;
 mod tables;
+mod top;
 mod words;
 
+pub use endings::Failure;
 pub use tables::{FolderError, Refusal};
 pub use words::{Command, Line, read_line};

@@ -1,8 +1,9 @@
 //! The tables of a folder, read from a shelf in their order, and the system that they spell.
 ghost use Rattle.std.specs.Prelude.{◌≡◌, Ok, Result};
+ghost use Rattle.ra_base.specs.Causes.{Counts};
 ghost use Rattle.ra_base.specs.declared.table.TableBytes.{TableBytes};
 ghost use Rattle.adequacy.specs.declared.tables.FolderError.{FolderError};
-ghost use Rattle.adequacy.specs.Folder.{can_be_missing, read_outcome, no_tables, with_table, table_order, HasRead, ComesTo};
+ghost use Rattle.adequacy.specs.Folder.{can_be_missing, read_outcome, no_tables, with_table, table_order, HasRead, ComesTo, is_read_failure};
 
 use ra_base::{Shelf, ShelfError, TableBytes, TableName, Text};
 use std::alloc::Global;
@@ -52,6 +53,7 @@ pub(crate) fn read_folder<S: Shelf>(
     ensures reads { (tables : Result TableBytes FolderError) × ComesTo tables result
         × HasRead (S.contents shelf.old) folder.now no_tables table_order tables
         (S.reads shelf.old) (S.reads shelf.new) (S.counts shelf.old) (S.counts shelf.new) }
+    ensures faults { Counts (is_read_failure result) (S.counts shelf.old).faults (S.counts shelf.new).faults }
 {
     let tables = read_tables(alloc, folder, &TABLE_ORDER, empty_tables(), shelf)?;
     match read_system(alloc, &tables) {
@@ -88,6 +90,7 @@ fn read_tables<S: Shelf>(
     ensures contents { S.contents shelf.new ≡ S.contents shelf.old }
     ensures reads { HasRead (S.contents shelf.old) folder.now tables order.now result
         (S.reads shelf.old) (S.reads shelf.new) (S.counts shelf.old) (S.counts shelf.new) }
+    ensures faults { Counts (is_read_failure result) (S.counts shelf.old).faults (S.counts shelf.new).faults }
 {
     let [table, rest @ ..] = order else {
         return Ok(tables);

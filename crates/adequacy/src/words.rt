@@ -2,6 +2,7 @@
 ghost use Rattle.std.specs.Prelude.{◌≡◌, ℕ, ◌≤◌, ◌<◌, map, IfSome};
 ghost use Rattle.std.specs.Option.{option_map};
 ghost use Rattle.std.specs.String.{string_bytes};
+ghost use Rattle.adequacy.specs.Commands.{IsInRange};
 ghost use Rattle.adequacy.specs.Words.{line_of, command_of, study_of, seed_of, within};
 ghost use Rattle.decimal_text.specs.Reading.{whole_of};
 
@@ -35,8 +36,9 @@ pub struct Line<'a> {
 /// The line that the words spell: a command, a folder and the command's options in their order, each as its
 /// name and its value. `None` where they spell none.
 pub fn read_line(words: &[String]) -> Option<Line<'_>>
-    ensures { option_map (λ l. record { folder = l.folder.now; command = l.command }) result
+    ensures line { option_map (λ l. record { folder = l.folder.now; command = l.command }) result
         ≡ line_of (map string_bytes words.now) }
+    ensures range { IfSome result (λ l. IsInRange l.command) }
 {
     let [command, folder, options @ ..] = words else {
         return None;
@@ -50,7 +52,8 @@ pub fn read_line(words: &[String]) -> Option<Line<'_>>
 
 // The command of a name with its options.
 fn read_command(name: &str, options: &[String]) -> Option<Command>
-    ensures { result ≡ command_of name.now (map string_bytes options.now) }
+    ensures command { result ≡ command_of name.now (map string_bytes options.now) }
+    ensures range { IfSome result IsInRange }
 {
     match name {
         "check" if options.is_empty() => Some(Command::Check),
@@ -61,7 +64,8 @@ fn read_command(name: &str, options: &[String]) -> Option<Command>
 
 // The samples and the seed of a study.
 fn read_study(options: &[String]) -> Option<Command>
-    ensures { result ≡ study_of (map string_bytes options.now) }
+    ensures command { result ≡ study_of (map string_bytes options.now) }
+    ensures range { IfSome result IsInRange }
 {
     let [name, value, rest @ ..] = options else {
         return None;

@@ -1,0 +1,117 @@
+-- How a run of the program ends: its status, what `out` has gained, and the line on `err`.
+use Rattle.std.specs.Prelude.{◌≡◌, ◌⊎◌, ℕ, List, [], ◌∷◌, ◌++◌, codes, Bool, true, false, Option, Result, Ok, Err}
+use Rattle.ra_base.specs.Causes.{Counts, Gained, GainedPart}
+use Rattle.ra_base.specs.declared.status.Status.{Status}
+use Rattle.ra_base.specs.declared.status.Status.TheVariants as status
+use Rattle.ra_base.specs.declared.table.TableBytes.{TableBytes}
+use Rattle.system_model.specs.System.{SystemParts}
+use Rattle.adequacy.specs.Commands.{answer_of, is_built}
+use Rattle.adequacy.specs.FaultText.{table_text, fault_line}
+use Rattle.adequacy.specs.Folder.{folder_outcome}
+use Rattle.adequacy.specs.declared.endings.Failure.{Failure}
+use Rattle.adequacy.specs.declared.endings.Failure.TheVariants.{Words, Refused, NotBuilt, ReadFault, WriteFault, OutOfMemory}
+use Rattle.adequacy.specs.declared.tables.FolderError.{FolderError}
+use Rattle.adequacy.specs.declared.tables.FolderError.TheVariants as folder
+use Rattle.adequacy.specs.declared.tables.Refusal.{Refusal}
+use Rattle.adequacy.specs.declared.tables.Refusal.TheVariants.{Missing, TooLong, Fault}
+use Rattle.adequacy.specs.declared.words.Command.{Command}
+
+-- a run answers, or fails
+abbrev pub Ending : Type 0
+Ending = Result (Unit {0}) Failure
+
+-- the failure of a run whose folder gives no system
+abbrev pub failure_of : FolderError → Failure
+failure_of (folder.Refused refusal) = Refused refusal
+failure_of folder.ReadFault = ReadFault
+failure_of folder.OutOfMemory = OutOfMemory
+
+-- the status of a failure, and of an ending
+abbrev pub failure_status : Failure → Status
+failure_status Words = status.Words
+failure_status (Refused refusal) = status.Table
+failure_status NotBuilt = status.Table
+failure_status ReadFault = status.ReadFault
+failure_status WriteFault = status.WriteFault
+failure_status OutOfMemory = status.OutOfMemory
+
+abbrev pub ending_status : Ending → Status
+ending_status (Ok done) = status.Done
+ending_status (Err failure) = failure_status failure
+
+-- the line of a refused folder; 10 is the line feed
+abbrev pub refusal_line : Refusal → List ℕ
+refusal_line (Missing table) = codes "table " ++ table_text table ++ codes " missing" ++ 10 ∷ []
+refusal_line (TooLong table) = codes "table " ++ table_text table ++ codes " too long" ++ 10 ∷ []
+refusal_line (Fault fault) = fault_line fault
+
+-- the line of a failure
+abbrev pub error_line : Failure → List ℕ
+error_line Words = codes "words: usage" ++ 10 ∷ []
+error_line (Refused refusal) = refusal_line refusal
+error_line NotBuilt = codes "system not built" ++ 10 ∷ []
+error_line ReadFault = codes "read fault" ++ 10 ∷ []
+error_line WriteFault = codes "write fault" ++ 10 ∷ []
+error_line OutOfMemory = codes "out of memory" ++ 10 ∷ []
+
+-- `err` has gained a line, or its first part where its count of faults rose
+abbrev pub ErrGains : Option (List ℕ) → Option (List ℕ) → ℕ → ℕ → List ℕ → Type 0
+ErrGains before now faults faults' line =
+    (Gained before now line × (faults' ≡ faults)) ⊎ (GainedPart before now line × Counts true faults faults')
+
+-- the status of an ending, with its line on `err`, or nothing there after an answer
+abbrev pub Tells : Ending → Status → Option (List ℕ) → Option (List ℕ) → ℕ → ℕ → Type 0
+Tells (Ok done) ends before now faults faults' = (ends ≡ status.Done) × (now ≡ before) × (faults' ≡ faults)
+Tells (Err failure) ends before now faults faults' =
+    (ends ≡ failure_status failure) × ErrGains before now faults faults' (error_line failure)
+
+-- a failure is told; or want of memory, where there was none to write why tables are refused
+abbrev pub Reports : Failure → Status → Option (List ℕ) → Option (List ℕ) → ℕ → ℕ → Type 0
+Reports (Refused refusal) ends before now faults faults' =
+    Tells (Err (Refused refusal)) ends before now faults faults' ⊎ Tells (Err OutOfMemory) ends before now faults faults'
+Reports failure ends before now faults faults' = Tells (Err failure) ends before now faults faults'
+
+-- how a command ends for a system, and what `out` has gained: its answer, a first part of that where the write
+-- failed, or nothing
+abbrev pub Answers : Command → SystemParts → Ending → Option (List ℕ) → Option (List ℕ) → Type 0
+Answers command system (Ok done) before now = Gained before now (answer_of command system)
+Answers command system (Err WriteFault) before now = GainedPart before now (answer_of command system)
+Answers command system (Err NotBuilt) before now = (is_built command system ≡ false) × (now ≡ before)
+Answers command system (Err OutOfMemory) before now = now ≡ before
+Answers command system (Err Words) before now = ⊥
+Answers command system (Err (Refused refusal)) before now = ⊥
+Answers command system (Err ReadFault) before now = ⊥
+
+-- how a command ends for a folder, by what the reads of its tables came to: where they spell a system, by what it
+-- answers for that system; where they are refused, for that reason; where a read failed, so
+abbrev pub Ends : Command → Result TableBytes FolderError → Ending → Option (List ℕ) → Option (List ℕ) → Type 0
+Ends command tables (Err OutOfMemory) before now = now ≡ before
+Ends command tables (Err Words) before now = ⊥
+Ends command tables (Err (Refused refusal)) before now =
+    (folder_outcome tables ≡ Err (folder.Refused refusal)) × (now ≡ before)
+Ends command tables (Err ReadFault) before now = (folder_outcome tables ≡ Err folder.ReadFault) × (now ≡ before)
+Ends command tables ending before now =
+    (system : SystemParts) × (folder_outcome tables ≡ Ok system) × Answers command system ending before now
+
+-- whether a read failed, and whether the write of the answer did
+abbrev pub is_shelf_failure : Ending → Bool
+is_shelf_failure (Err ReadFault) = true
+is_shelf_failure ending = false
+
+abbrev pub is_sink_failure : Ending → Bool
+is_sink_failure (Err WriteFault) = true
+is_sink_failure ending = false
+
+-- whether a status says so
+abbrev pub says_read_fault : Status → Bool
+says_read_fault status.ReadFault = true
+says_read_fault ends = false
+
+abbrev pub says_write_fault : Status → Bool
+says_write_fault status.WriteFault = true
+says_write_fault ends = false
+
+-- whether `out` may have gained a byte
+abbrev pub may_have_written : Ending → Bool
+may_have_written (Ok done) = true
+may_have_written ending = is_sink_failure ending
