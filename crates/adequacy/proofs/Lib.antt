@@ -1,3 +1,6 @@
 pub mod FolderLemmas
+pub mod ReportLemmas
+pub mod StoredLemmas
 pub mod StudyLemmas
 pub mod TextLemmas
+pub mod TopLemmas

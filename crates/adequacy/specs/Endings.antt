@@ -1,13 +1,17 @@
 -- How a run of the program ends: its status, what `out` has gained, and the line on `err`.
 use Rattle.std.specs.Prelude.{◌≡◌, ◌⊎◌, ℕ, List, [], ◌∷◌, ◌++◌, codes, Bool, true, false, Option, Result, Ok, Err}
 use Rattle.ra_base.specs.Causes.{Counts, Gained, GainedPart}
+use Rattle.ra_base.specs.Outside.{Tables}
+use Rattle.ra_base.specs.Reading.{Reading}
+use Rattle.ra_base.specs.declared.shelf_counts.ShelfCounts.{ShelfCounts}
 use Rattle.ra_base.specs.declared.status.Status.{Status}
 use Rattle.ra_base.specs.declared.status.Status.TheVariants as status
 use Rattle.ra_base.specs.declared.table.TableBytes.{TableBytes}
 use Rattle.system_model.specs.System.{SystemParts}
 use Rattle.adequacy.specs.Commands.{answer_of, is_built}
 use Rattle.adequacy.specs.FaultText.{table_text, fault_line}
-use Rattle.adequacy.specs.Folder.{folder_outcome}
+use Rattle.adequacy.specs.Folder.{folder_outcome, no_tables, table_order, HasRead, stored_tables}
+use Rattle.adequacy.specs.Words.{Line as LineWords}
 use Rattle.adequacy.specs.declared.endings.Failure.{Failure}
 use Rattle.adequacy.specs.declared.endings.Failure.TheVariants.{Words, Refused, NotBuilt, ReadFault, WriteFault, OutOfMemory}
 use Rattle.adequacy.specs.declared.tables.FolderError.{FolderError}
@@ -115,3 +119,22 @@ says_write_fault ends = false
 abbrev pub may_have_written : Ending → Bool
 may_have_written (Ok done) = true
 may_have_written ending = is_sink_failure ending
+
+abbrev pub says_written : Status → Bool
+says_written status.Done = true
+says_written ends = says_write_fault ends
+
+-- a line has run: the tables of its folder were read up to the first that ends the reading, the run ended as these
+-- tables and the command have it, and that was told
+pub record HasRun (contents : Option Tables) (line : LineWords) (ends : Status) (reads reads' : List Reading) (counts counts' : ShelfCounts) (held held' : Option (List ℕ)) (said said' : Option (List ℕ)) (faults faults' : ℕ) : Type 0 where
+  pub tables : Result TableBytes FolderError
+  pub ending : Ending
+  pub read : HasRead contents line.folder no_tables table_order tables reads reads' counts counts'
+  pub ended : Ends line.command tables ending held held'
+  pub told : Tells ending ends said said' faults faults'
+
+-- a line has run on the stored tables of its folder, unless a read of them failed
+pub record RunsOn (stored : Tables) (line : LineWords) (ends : Status) (held held' : Option (List ℕ)) (said said' : Option (List ℕ)) (faults faults' : ℕ) : Type 0 where
+  pub ending : Ending
+  pub ended : (ending ≡ Err ReadFault) ⊎ Ends line.command (stored_tables stored line.folder) ending held held'
+  pub told : Tells ending ends said said' faults faults'

@@ -11,4 +11,5 @@ mod words;
 
 pub use endings::Failure;
 pub use tables::{FolderError, Refusal};
+pub use top::adequacy;
 pub use words::{Command, Line, read_line};

@@ -1,0 +1,65 @@
+-- What reads come to where the shelf tells its tables: what the stored tables come to, unless a read failed or memory
+-- wasn't found.
+use Rattle.std.proofs.Common.{◌≡◌, ℕ, ◌≤◌, ◌<◌, List, [], ◌∷◌, length, Option, Some, None, Bool, true, false, Result, Ok, Err, refl, sym, ◌∙◌, subst, inl, inr, ◌⊎◌, arith}
+use Rattle.std.specs.Prelude.{if◌then◌else◌, nat_le}
+use Rattle.ra_base.specs.declared.limits.TheConstants.{MOST_TABLE_BYTES}
+use Rattle.ra_base.specs.Outside.{Tables, ReadsAs}
+use Rattle.ra_base.specs.declared.shelf.ShelfError.TheVariants.{Missing as NoTable, TooLong as LongTable, Fault as ReadFailed, OutOfMemory as NoRoom}
+use Rattle.ra_base.specs.declared.table.TableName.{TableName}
+use Rattle.ra_base.specs.declared.table.TableBytes.{TableBytes}
+use Rattle.adequacy.specs.declared.tables.FolderError.{FolderError}
+use Rattle.adequacy.specs.declared.tables.FolderError.TheVariants.{ReadFault, OutOfMemory}
+use Rattle.adequacy.specs.Folder.{Answer, read_outcome, with_table, HasAnswered, AreTold, stored_answer, stored_from}
+
+-- what came of reads is this, or a read failed, or memory wasn't found
+abbrev pub IsUnless : Result TableBytes FolderError → Result TableBytes FolderError → Type 0
+IsUnless outcome expected = (outcome ≡ expected) ⊎ ((outcome ≡ Err ReadFault) ⊎ (outcome ≡ Err OutOfMemory))
+
+long_enough : (n : ℕ) → n ≤ MOST_TABLE_BYTES → nat_le n MOST_TABLE_BYTES ≡ true
+long_enough n h = Prim.grind (arith, h)
+
+too_long : (n : ℕ) → MOST_TABLE_BYTES < n → nat_le n MOST_TABLE_BYTES ≡ false
+too_long n h = Prim.grind (arith, h)
+
+-- an answer is that of what is stored, or a failure
+answer_is : (stored : Option (List ℕ)) (answer : Answer) → ReadsAs stored answer → (answer ≡ stored_answer stored) ⊎ ((answer ≡ Err ReadFailed) ⊎ (answer ≡ Err NoRoom))
+answer_is stored (Ok text) (is, short) = rw (is, long_enough (length text) short) (inl refl)
+answer_is stored (Err NoTable) is = rw is (inl refl)
+answer_is stored (Err LongTable) (text, is, long) = rw (is, too_long (length text) long) (inl refl)
+answer_is stored (Err ReadFailed) is = inr (inl refl)
+answer_is stored (Err NoRoom) is = inr (inr refl)
+
+-- what stored tables come to after an answer's outcome
+abbrev pub stored_onward : Tables → List ℕ → List TableName → TableName → TableBytes → Result (Option (List ℕ)) FolderError → Result TableBytes FolderError
+stored_onward stored folder order table tables (Ok text) = stored_from stored folder order (with_table tables table text)
+stored_onward stored folder order table tables (Err error) = Err error
+
+-- what was answered after an answer's outcome
+abbrev pub AnsweredOnward : List TableName → TableName → TableBytes → List Answer → Result TableBytes FolderError → Result (Option (List ℕ)) FolderError → Type 0
+AnsweredOnward order table tables answers outcome (Ok text) = HasAnswered (with_table tables table text) order answers outcome
+AnsweredOnward order table tables answers outcome (Err error) = (answers ≡ []) × (outcome ≡ Err error)
+
+onward : (stored : Tables) (folder : List ℕ) (order : List TableName) (table : TableName) (tables : TableBytes) (answers : List Answer) (outcome : Result TableBytes FolderError) (read : Result (Option (List ℕ)) FolderError)
+    → ((t : TableBytes) → HasAnswered t order answers outcome → IsUnless outcome (stored_from stored folder order t))
+    → AnsweredOnward order table tables answers outcome read → IsUnless outcome (stored_onward stored folder order table tables read)
+onward stored folder order table tables answers outcome (Ok text) later answered = later (with_table tables table text) answered
+onward stored folder order table tables answers outcome (Err error) later answered = inl answered.1
+
+pub told_outcome : (stored : Tables) (folder : List ℕ) (order : List TableName) (answers : List Answer) (tables : TableBytes) (outcome : Result TableBytes FolderError)
+    → HasAnswered tables order answers outcome → AreTold (Some stored) folder order answers → IsUnless outcome (stored_from stored folder order tables)
+told_outcome stored folder [] answers tables outcome answered told = inl answered.1
+told_outcome stored folder (table ∷ order) [] tables outcome answered told = absurd answered
+told_outcome stored folder (table ∷ order) (answer ∷ answers) tables outcome answered told =
+    let after : AnsweredOnward order table tables answers outcome (read_outcome table answer) = answered in
+    elim (answer_is (stored folder table) answer told.0) [
+      inl same ↦
+        subst (λ (a : Answer). IsUnless outcome (stored_onward stored folder order table tables (read_outcome table a))) same
+        (onward stored folder order table tables answers outcome (read_outcome table answer)
+        (λ t h. told_outcome stored folder order answers t outcome h told.1) after)
+    | inr (inl failed) ↦
+        let ends = subst (λ (a : Answer). AnsweredOnward order table tables answers outcome (read_outcome table a)) failed after in
+        inr (inl ends.1)
+    | inr (inr none) ↦
+        let ends = subst (λ (a : Answer). AnsweredOnward order table tables answers outcome (read_outcome table a)) none after in
+        inr (inr ends.1)
+    ]
