@@ -57,13 +57,13 @@ pub reading_goes_on : (contents contents' : Option Tables) (folder : List ℕ) (
     → HasRead contents folder tables order outcome reads reads' counts counts'
 reading_goes_on contents contents' folder tables [] answer text tables' outcome reads mid reads' counts half counts' some goes set same noted counted told rest = absurd (omega arith)
 reading_goes_on contents contents' folder tables (table ∷ order) answer text tables' outcome reads mid reads' counts half counts' some goes set same noted counted told left =
-  let rest : HasRead contents' folder tables' order outcome mid reads' half counts' = subst (λ (o : List TableName). HasRead contents' folder tables' o outcome mid reads' half counts') (take_rest (table ∷ order) 1) left in record {
-  answers = answer ∷ rest.answers;
-  answered = rw (goes, HasAnswered) (subst (λ (t : TableBytes). HasAnswered t order rest.answers outcome) set rest.answered);
-  noted = rest.noted ∙ ap (λ (r : List Reading). r ++ readings folder order rest.answers) noted ∙ append_assoc reads (reading folder table answer ∷ []) (readings folder order rest.answers);
-  counted = rest.counted ∙ ap (λ (c : ShelfCounts). counts_after c rest.answers) counted;
-  told = (told, subst (λ (c : Option Tables). AreTold c folder order rest.answers) same rest.told);
-}
+    let rest : HasRead contents' folder tables' order outcome mid reads' half counts' = subst (λ (o : List TableName). HasRead contents' folder tables' o outcome mid reads' half counts') (take_rest (table ∷ order) 1) left in record {
+      answers = answer ∷ rest.answers;
+      answered = rw (goes, HasAnswered) (subst (λ (t : TableBytes). HasAnswered t order rest.answers outcome) set rest.answered);
+      noted = rest.noted ∙ ap (λ (r : List Reading). r ++ readings folder order rest.answers) noted ∙ append_assoc reads (reading folder table answer ∷ []) (readings folder order rest.answers);
+      counted = rest.counted ∙ ap (λ (c : ShelfCounts). counts_after c rest.answers) counted;
+      told = (told, subst (λ (c : Option Tables). AreTold c folder order rest.answers) same rest.told);
+    }
 
 -- a table that may not be missing is refused
 missing_refused : (b : Bool) (table : TableName) (error : FolderError) (outcome : Result (Option (List ℕ)) FolderError) → outcome ≡ (if b then Ok None else Err (Refused (Missing table))) → outcome ≡ Err error → error ≡ Refused (Missing table)

@@ -52,14 +52,14 @@ told_outcome stored folder (table ∷ order) [] tables outcome answered told = a
 told_outcome stored folder (table ∷ order) (answer ∷ answers) tables outcome answered told =
     let after : AnsweredOnward order table tables answers outcome (read_outcome table answer) = answered in
     elim (answer_is (stored folder table) answer told.0) [
-      inl same ↦
-        subst (λ (a : Answer). IsUnless outcome (stored_onward stored folder order table tables (read_outcome table a))) same
-        (onward stored folder order table tables answers outcome (read_outcome table answer)
-        (λ t h. told_outcome stored folder order answers t outcome h told.1) after)
-    | inr (inl failed) ↦
-        let ends = subst (λ (a : Answer). AnsweredOnward order table tables answers outcome (read_outcome table a)) failed after in
-        inr (inl ends.1)
-    | inr (inr none) ↦
-        let ends = subst (λ (a : Answer). AnsweredOnward order table tables answers outcome (read_outcome table a)) none after in
-        inr (inr ends.1)
+      | inl same ↦
+          subst (λ (a : Answer). IsUnless outcome (stored_onward stored folder order table tables (read_outcome table a))) same
+          (onward stored folder order table tables answers outcome (read_outcome table answer)
+          (λ t h. told_outcome stored folder order answers t outcome h told.1) after)
+      | inr (inl failed) ↦
+          let ends = subst (λ (a : Answer). AnsweredOnward order table tables answers outcome (read_outcome table a)) failed after in
+          inr (inl ends.1)
+      | inr (inr none) ↦
+          let ends = subst (λ (a : Answer). AnsweredOnward order table tables answers outcome (read_outcome table a)) none after in
+          inr (inr ends.1)
     ]

@@ -14,6 +14,8 @@ use Rattle.adequacy.specs.Folder.{folder_outcome, no_tables, table_order, HasRea
 use Rattle.adequacy.specs.Words.{Line as LineWords}
 use Rattle.adequacy.specs.declared.endings.Failure.{Failure}
 use Rattle.adequacy.specs.declared.endings.Failure.TheVariants.{Words, Refused, NotBuilt, ReadFault, WriteFault, OutOfMemory}
+use Rattle.adequacy.specs.declared.endings.Unread.{Unread}
+use Rattle.adequacy.specs.declared.endings.Unread.TheVariants as unread
 use Rattle.adequacy.specs.declared.tables.FolderError.{FolderError}
 use Rattle.adequacy.specs.declared.tables.FolderError.TheVariants as folder
 use Rattle.adequacy.specs.declared.tables.Refusal.{Refusal}
@@ -29,6 +31,11 @@ abbrev pub failure_of : FolderError → Failure
 failure_of (folder.Refused refusal) = Refused refusal
 failure_of folder.ReadFault = ReadFault
 failure_of folder.OutOfMemory = OutOfMemory
+
+-- the failure of a run that has no words to read
+abbrev pub unread_failure : Unread → Failure
+unread_failure unread.NotText = Words
+unread_failure unread.OutOfMemory = OutOfMemory
 
 -- the status of a failure, and of an ending
 abbrev pub failure_status : Failure → Status

@@ -1,5 +1,5 @@
 -- The lines of a refused folder. 10 is the line feed.
-use Rattle.std.specs.Prelude.{ℕ, List, [], ◌∷◌, ◌++◌, codes}
+use Rattle.std.specs.Prelude.{ℕ, List, [], ◌∷◌, ◌++◌, codes, slice_index_or}
 use Rattle.decimal_text.specs.DecimalText.{whole_text}
 use Rattle.decimal_text.specs.declared.fault.NumberFault.{NumberFault}
 use Rattle.decimal_text.specs.declared.fault.NumberFault.TheVariants.{Empty as EmptyNumber, NotANumber, NotWhole, TooLarge}
@@ -44,9 +44,22 @@ cause_text Empty = codes "empty"
 cause_text BothRatesZero = codes "both rates are zero"
 cause_text SameZone = codes "same zone"
 
--- PLACEHOLDER the name of a column that every table of this kind has
+-- the columns of a table that aren't zones', in the order of its definition
+abbrev pub columns_of : TableName → List (List ℕ)
+columns_of Zones = codes "name" ∷ []
+columns_of Units = codes "name" ∷ codes "zone" ∷ codes "capacity" ∷ codes "failure" ∷ codes "repair" ∷ []
+columns_of Interfaces = codes "name" ∷ codes "from" ∷ codes "to" ∷ codes "forward" ∷ codes "backward" ∷ []
+columns_of Lines =
+    codes "name" ∷ codes "interface" ∷ codes "forward" ∷ codes "backward" ∷ codes "failure" ∷ codes "repair" ∷ []
+columns_of Storages =
+    codes "name" ∷ codes "zone" ∷ codes "charge" ∷ codes "discharge" ∷ codes "energy_kwh" ∷ codes "start_kwh"
+    ∷ codes "charge_efficiency" ∷ codes "discharge_efficiency" ∷ codes "carryover" ∷ codes "failure" ∷ codes "repair" ∷ []
+columns_of Load = codes "hour" ∷ []
+columns_of Variable = codes "hour" ∷ []
+
+-- the name of the column with this number, and nothing past the last
 abbrev pub fixed_column_text : TableName → ℕ → List ℕ
-fixed_column_text table at = []
+fixed_column_text table at = slice_index_or (columns_of table) at []
 
 -- the column of a fault: its name, the zone whose column it is, or a dash for the whole row
 abbrev pub column_text : TableName → Column → List ℕ

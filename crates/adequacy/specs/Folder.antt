@@ -75,8 +75,8 @@ HasAnswered tables [] answers outcome = (answers ≡ []) × (outcome ≡ Ok tabl
 HasAnswered tables (table ∷ order) [] outcome = ⊥
 HasAnswered tables (table ∷ order) (answer ∷ answers) outcome =
     elim (read_outcome table answer) [
-      Ok text ↦ HasAnswered (with_table tables table text) order answers outcome
-    | Err error ↦ (answers ≡ []) × (outcome ≡ Err error)
+      | Ok text ↦ HasAnswered (with_table tables table text) order answers outcome
+      | Err error ↦ (answers ≡ []) × (outcome ≡ Err error)
     ]
 
 -- the reads of a folder with these answers, one table after another
@@ -126,8 +126,8 @@ abbrev pub stored_from : Tables → List ℕ → List TableName → TableBytes �
 stored_from stored folder [] tables = Ok tables
 stored_from stored folder (table ∷ order) tables =
     elim (read_outcome table (stored_answer (stored folder table))) [
-      Ok text ↦ stored_from stored folder order (with_table tables table text)
-    | Err error ↦ Err error
+      | Ok text ↦ stored_from stored folder order (with_table tables table text)
+      | Err error ↦ Err error
     ]
 
 -- what the stored tables of a folder come to

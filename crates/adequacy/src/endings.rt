@@ -1,6 +1,6 @@
 //! How a run of the program ends, and the line that it leaves on standard error.
-ghost use Rattle.std.specs.Prelude.{◌≡◌, ◌++◌, codes, IfOk};
-ghost use Rattle.adequacy.specs.Endings.{failure_of, refusal_line, ErrGains, Reports};
+ghost use Rattle.std.specs.Prelude.{◌≡◌, ◌++◌, codes, IfOk, Err};
+ghost use Rattle.adequacy.specs.Endings.{failure_of, unread_failure, refusal_line, ErrGains, Reports, Tells};
 ghost use Rattle.adequacy.specs.FaultText.{table_text};
 
 use crate::report_text::{name_of, put_table_fault};
@@ -21,6 +21,15 @@ pub enum Failure {
     ReadFault,
     /// The write of the answer failed.
     WriteFault,
+    /// Memory wasn't found.
+    OutOfMemory,
+}
+
+/// Why there are no words to read.
+#[derive(Clone, Copy, Debug, PartialEq, Eq)]
+pub enum Unread {
+    /// A word is no text.
+    NotText,
     /// Memory wasn't found.
     OutOfMemory,
 }
@@ -51,6 +60,16 @@ pub(crate) fn report<E: Sink>(alloc: Global, failure: Failure, err: &mut E) -> S
             Ok(text) => tell(err, text.bytes(), Status::Table),
             Err(OutOfMemory) => tell(err, b"out of memory\n", Status::OutOfMemory),
         },
+    }
+}
+
+/// Writes why there are no words to read, in one write, and gives the status.
+pub fn report_unread<E: Sink>(reason: Unread, err: &mut E) -> Status
+    ensures { Tells (Err (unread_failure reason)) result (E.held err.old) (E.held err.new) (E.faults err.old) (E.faults err.new) }
+{
+    match reason {
+        Unread::NotText => tell(err, b"words: usage\n", Status::Words),
+        Unread::OutOfMemory => tell(err, b"out of memory\n", Status::OutOfMemory),
     }
 }
 

@@ -9,7 +9,7 @@ mod tables;
 mod top;
 mod words;
 
-pub use endings::Failure;
+pub use endings::{Failure, Unread, report_unread};
 pub use tables::{FolderError, Refusal};
 pub use top::adequacy;
 pub use words::{Command, Line, read_line};

@@ -1,5 +1,5 @@
 //! The texts that the program writes: totals, the size of a system, faults in tables.
-ghost use Rattle.std.specs.Prelude.{◌≡◌, ◌<◌, ◌≤◌, ◌^◌, ◌++◌, [], ◌∷◌, length, codes, OnOk, OnErr, if◌then◌else◌};
+ghost use Rattle.std.specs.Prelude.{◌≡◌, ◌<◌, ◌≤◌, ◌^◌, ◌++◌, [], ◌∷◌, length, map, slice_index_or, codes, OnOk, OnErr, if◌then◌else◌};
 ghost use Rattle.std.specs.List.{flat_map, range_with_len};
 ghost use Rattle.decimal_text.specs.DecimalText.{whole_text};
 ghost use Rattle.system_model.specs.System.{zone_count};
@@ -14,6 +14,30 @@ use ra_base::{OutOfMemory, TableName, Text};
 use sample_run::{CutRow, Part, Sums, Totals, error, mean};
 use system_model::System;
 use system_tables::{Cause, Column, TableFault};
+
+// The columns of lines and storages, in the order of their definitions.
+const LINE_COLUMNS: [&[u8]; 6] = [
+    b"name",
+    b"interface",
+    b"forward",
+    b"backward",
+    b"failure",
+    b"repair",
+];
+
+const STORAGE_COLUMNS: [&[u8]; 11] = [
+    b"name",
+    b"zone",
+    b"charge",
+    b"discharge",
+    b"energy_kwh",
+    b"start_kwh",
+    b"charge_efficiency",
+    b"discharge_efficiency",
+    b"carryover",
+    b"failure",
+    b"repair",
+];
 
 /// Appends the line that tells how large a system is: how many zones, units, interfaces, lines, storages and hours
 /// it has, its pooled unit capacity in MW, and the greatest need in MW with its first hour. Without memory the text
@@ -106,11 +130,28 @@ fn put_column(out: &mut Text, table: TableName, column: Column) -> Result<(), Ou
     }
 }
 
-// PLACEHOLDER
-fn fixed_column(_table: TableName, _at: u8) -> &'static [u8]
-    ensures { result.now ≡ fixed_column_text _table _at }
+// The name of a column that isn't a zone's.
+fn fixed_column(table: TableName, at: u8) -> &'static [u8]
+    ensures { result.now ≡ fixed_column_text table at }
 {
-    b""
+    match table {
+        TableName::Zones => among(&[b"name"], at),
+        TableName::Units => among(&[b"name", b"zone", b"capacity", b"failure", b"repair"], at),
+        TableName::Interfaces => among(&[b"name", b"from", b"to", b"forward", b"backward"], at),
+        TableName::Lines => among(&LINE_COLUMNS, at),
+        TableName::Storages => among(&STORAGE_COLUMNS, at),
+        TableName::Load | TableName::Variable => among(&[b"hour"], at),
+    }
+}
+
+// The name at a place, and nothing past the last.
+fn among(names: &[&'static [u8]], at: u8) -> &'static [u8]
+    ensures { result.now ≡ slice_index_or (map (λ name. name.now) names.now) at [] }
+{
+    match names.get(usize::from(at)) {
+        Some(name) => name,
+        None => b"",
+    }
 }
 
 // What is wrong with a table.

@@ -150,3 +150,6 @@ fn answer<O: Sink>(
         Err(_) => Err(Failure::WriteFault),
     }
 }
+
+#[cfg(test)]
+mod tests;

@@ -1,26 +1,23 @@
 //! Folders of tables in the file system.
 ghost use Rattle.std.specs.Prelude.{None};
 
-use ra_base::{Shelf, ShelfError, TableName, Text};
+use ra_base::limits::MOST_TABLE_BYTES;
+use ra_base::{ReadLog, ReadNote, Shelf, ShelfCounts, ShelfError, TableName, Text};
 use std::alloc::Global;
 use std::io::Read;
 use std::rt::Files;
 use std::{fs, io};
 
-/// A table of more bytes than this, 64 MiB, is too long.
-const TABLE_LIMIT: usize = 67_108_864;
-
 /// How many bytes are read at once.
 const PIECE: usize = 65_536;
 
-/// Reads the table `units` of a folder from its file `units.csv`, and its like. It doesn't tell what the
-/// folders hold, and counts each failure.
+/// Reads the table `units` of a folder from its file `units.csv`, and its like. It doesn't tell what the folders
+/// hold; it counts each failure, and stands by what its reads have answered.
 #[derive(Drop)]
 pub struct FolderShelf<'a, R> {
     rt: &'a R,
-    misses: u64,
-    overlong: u64,
-    faults: u64,
+    counts: ShelfCounts,
+    log: ReadLog,
 }
 
 impl<'a, R: Files> FolderShelf<'a, R> {
@@ -28,9 +25,8 @@ impl<'a, R: Files> FolderShelf<'a, R> {
     pub fn new(rt: &'a R) -> FolderShelf<'a, R> {
         FolderShelf {
             rt,
-            misses: 0,
-            overlong: 0,
-            faults: 0,
+            counts: ShelfCounts::NONE,
+            log: ReadLog::new(),
         }
     }
 }
@@ -38,29 +34,19 @@ impl<'a, R: Files> FolderShelf<'a, R> {
 impl<R: Files> Shelf for FolderShelf<'_, R> {
     ghost contents = { λ _. None };
 
-    ghost misses = { λ s. s.misses };
+    ghost reads = { λ s. s.log.items };
 
-    ghost overlong = { λ s. s.overlong };
-
-    ghost faults = { λ s. s.faults };
+    ghost counts = { λ s. s.counts };
 
     fn read(&mut self, alloc: Global, folder: &str, table: TableName) -> Result<Text, ShelfError> {
-        match read_file(self.rt, alloc, folder, table) {
-            Ok(text) => Ok(text),
-            Err(ShelfError::Missing) => {
-                self.misses = self.misses.saturating_add(1);
-                Err(ShelfError::Missing)
-            }
-            Err(ShelfError::TooLong) => {
-                self.overlong = self.overlong.saturating_add(1);
-                Err(ShelfError::TooLong)
-            }
-            Err(ShelfError::Fault) => {
-                self.faults = self.faults.saturating_add(1);
-                Err(ShelfError::Fault)
-            }
-            Err(ShelfError::OutOfMemory) => Err(ShelfError::OutOfMemory),
-        }
+        let answer = read_file(self.rt, alloc, folder, table);
+        self.counts = self.counts.count(&answer);
+        self.log = self.log.and(&ReadNote {
+            folder,
+            table,
+            answer: &answer,
+        });
+        answer
     }
 }
 
@@ -120,7 +106,7 @@ fn read_whole<F: Read + Drop>(alloc: Global, mut file: F) -> Result<Text, ShelfE
 
 // Appends what was read, while the table isn't too long.
 fn take(text: &mut Text, piece: &[u8]) -> Result<(), ShelfError> {
-    if text.bytes().len().saturating_add(piece.len()) > TABLE_LIMIT {
+    if text.bytes().len().saturating_add(piece.len()) > MOST_TABLE_BYTES {
         return Err(ShelfError::TooLong);
     }
     text.push(piece).map_err(|_| ShelfError::OutOfMemory)

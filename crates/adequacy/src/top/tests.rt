@@ -1,0 +1,371 @@
+ghost use Rattle.std.specs.Prelude.{Some};
+
+use super::adequacy;
+use ra_base::{MemoryShelf, MemorySink, Sink, SinkFault, Status, TableName};
+use std::alloc::Global;
+use std::test::Fail;
+
+// A folder, the words that follow the command and the folder, and what comes of it.
+struct Case {
+    tables: &'static [(TableName, &'static str)],
+    command: &'static str,
+    options: &'static [&'static str],
+    status: Status,
+    out: &'static str,
+    err: &'static str,
+}
+
+const ZONE: (TableName, &str) = (TableName::Zones, "name\nA\n");
+
+// A unit of 100 MW that is never out, and one that always is.
+const NEVER_OUT: (TableName, &str) = (
+    TableName::Units,
+    "name,zone,capacity,failure,repair\nU1,A,100,0,1\n",
+);
+
+const ALWAYS_OUT: (TableName, &str) = (
+    TableName::Units,
+    "name,zone,capacity,failure,repair\nU1,A,100,1,0\n",
+);
+
+// Loads of 60 MW in 24 hours.
+const DAY: (TableName, &str) = (
+    TableName::Load,
+    "hour,A\n0,60\n1,60\n2,60\n3,60\n4,60\n5,60\n6,60\n7,60\n8,60\n9,60\n10,60\n11,60\n12,60\n13,60\n14,60\n15,60\n16,60\n17,60\n18,60\n19,60\n20,60\n21,60\n22,60\n23,60\n",
+);
+
+// A unit of 10 MW that changes its state each hour, and loads of 10 MW in two hours.
+const ALTERNATING: (TableName, &str) = (
+    TableName::Units,
+    "name,zone,capacity,failure,repair\nU1,A,10,1,1\n",
+);
+
+const TWO_HOURS: (TableName, &str) = (TableName::Load, "hour,A\n0,10\n1,10\n");
+
+const ONE_HOUR: (TableName, &str) = (TableName::Load, "hour,A\n1,8\n");
+
+// As a spreadsheet writes it: a mark in front, other columns in another order, quotes, spaces, CRLF.
+const SPREADSHEET: (TableName, &str) = (
+    TableName::Units,
+    "\u{feff}fuel,repair,name,zone,failure,capacity\r\ngas,0.98,\"U, one\",A,0.02,3.0\r\ncoal, 0.98 ,U2,A,2e-2,5\r\n",
+);
+
+const OPEN_QUOTE: (TableName, &str) = (
+    TableName::Units,
+    "\u{feff}fuel,repair,name,zone,failure,capacity\r\ngas,0.98,\"U, one\",A,0.02,3.0\r\ncoal, 0.98 ,U2,A,2e-2,5\r\n\"gas,0.98,U3,A,0.02,4",
+);
+
+const NOTHING_SHORT: &str = "samples 2
+hours sum 0 mean 0.000 error 0.000
+days sum 0 mean 0.000 error 0.000
+events sum 0 mean 0.000 error 0.000
+unserved sum 0 mean 0.000 error 0.000
+zone A sum 0 mean 0.000 error 0.000
+";
+
+const ALL_SHORT: &str = "samples 2
+hours sum 48 mean 24.000 error 0.000
+days sum 2 mean 1.000 error 0.000
+events sum 2 mean 1.000 error 0.000
+unserved sum 2880 mean 1440.000 error 0.000
+zone A sum 2880 mean 1440.000 error 0.000
+cut A hours 48 unserved 2880
+";
+
+const ONE_SAMPLE: &str = "samples 1
+hours sum 24 mean 24.000 error -
+days sum 1 mean 1.000 error -
+events sum 1 mean 1.000 error -
+unserved sum 1440 mean 1440.000 error -
+zone A sum 1440 mean 1440.000 error -
+cut A hours 24 unserved 1440
+";
+
+const ONE_HOUR_EACH: &str = "samples 3
+hours sum 3 mean 1.000 error 0.000
+days sum 3 mean 1.000 error 0.000
+events sum 3 mean 1.000 error 0.000
+unserved sum 30 mean 10.000 error 0.000
+zone A sum 30 mean 10.000 error 0.000
+cut A hours 3 unserved 30
+";
+
+// A capacity that isn't whole, a unit that can neither fail nor be repaired, and hours with a gap.
+const HALF_MW: (TableName, &str) = (
+    TableName::Units,
+    "name,zone,capacity,failure,repair\nU1,A,155.5,0,1\n",
+);
+
+const NO_RATE: (TableName, &str) = (
+    TableName::Units,
+    "name,zone,capacity,failure,repair\nU1,A,100,0,0\n",
+);
+
+const GAP: (TableName, &str) = (TableName::Load, "hour,A\n0,10\n1,10\n3,10\n");
+
+const TWO_ZONES: (TableName, &str) = (TableName::Zones, "name\nA\nB\n");
+
+const TWO_LOADS: (TableName, &str) = (TableName::Load, "hour,A,B\n0,10,10\n");
+
+// What is known by hand: studies, checks, refused tables and refused words.
+const CASES: [Case; 19] = [
+    Case {
+        tables: &[ZONE, NEVER_OUT, DAY],
+        command: "study",
+        options: &["--samples", "2", "--seed", "1"],
+        status: Status::Done,
+        out: NOTHING_SHORT,
+        err: "",
+    },
+    Case {
+        tables: &[ZONE, ALWAYS_OUT, DAY],
+        command: "study",
+        options: &["--samples", "2"],
+        status: Status::Done,
+        out: ALL_SHORT,
+        err: "",
+    },
+    Case {
+        tables: &[ZONE, ALWAYS_OUT, DAY],
+        command: "study",
+        options: &["--samples", "1"],
+        status: Status::Done,
+        out: ONE_SAMPLE,
+        err: "",
+    },
+    Case {
+        tables: &[ZONE, ALTERNATING, TWO_HOURS],
+        command: "study",
+        options: &["--samples", "3"],
+        status: Status::Done,
+        out: ONE_HOUR_EACH,
+        err: "",
+    },
+    Case {
+        tables: &[ZONE, SPREADSHEET, ONE_HOUR],
+        command: "check",
+        options: &[],
+        status: Status::Done,
+        out: "zones 1 units 2 interfaces 0 lines 0 storages 0 hours 1 capacity 8 peak 8 hour 0\n",
+        err: "",
+    },
+    Case {
+        tables: &[ZONE, OPEN_QUOTE, ONE_HOUR],
+        command: "check",
+        options: &[],
+        status: Status::Table,
+        out: "",
+        err: "table units row 4 column -: field count\n",
+    },
+    Case {
+        tables: &[ZONE, HALF_MW, ONE_HOUR],
+        command: "check",
+        options: &[],
+        status: Status::Table,
+        out: "",
+        err: "table units row 2 column capacity: not whole at 4\n",
+    },
+    Case {
+        tables: &[ZONE, NEVER_OUT, GAP],
+        command: "check",
+        options: &[],
+        status: Status::Table,
+        out: "",
+        err: "table load row 4 column hour: hour 3, wanted 2\n",
+    },
+    Case {
+        tables: &[ZONE, NEVER_OUT],
+        command: "check",
+        options: &[],
+        status: Status::Table,
+        out: "",
+        err: "table load missing\n",
+    },
+    Case {
+        tables: &[ZONE, NO_RATE, ONE_HOUR],
+        command: "study",
+        options: &["--samples", "2", "--seed", "1"],
+        status: Status::Table,
+        out: "",
+        err: "table units row 2 column repair: both rates are zero\n",
+    },
+    Case {
+        tables: &[TWO_ZONES, NEVER_OUT, TWO_LOADS],
+        command: "study",
+        options: &["--samples", "2", "--seed", "1"],
+        status: Status::Table,
+        out: "",
+        err: "system not built\n",
+    },
+    Case {
+        tables: &[ZONE, NEVER_OUT, DAY],
+        command: "study",
+        options: &["--samples", "1000001"],
+        status: Status::Words,
+        out: "",
+        err: "words: usage\n",
+    },
+    Case {
+        tables: &[ZONE, NEVER_OUT, DAY],
+        command: "study",
+        options: &["--samples", "0"],
+        status: Status::Words,
+        out: "",
+        err: "words: usage\n",
+    },
+    Case {
+        tables: &[ZONE, NEVER_OUT, DAY],
+        command: "study",
+        options: &["--samples"],
+        status: Status::Words,
+        out: "",
+        err: "words: usage\n",
+    },
+    Case {
+        tables: &[ZONE, NEVER_OUT, DAY],
+        command: "study",
+        options: &["--seed", "1"],
+        status: Status::Words,
+        out: "",
+        err: "words: usage\n",
+    },
+    Case {
+        tables: &[ZONE, NEVER_OUT, DAY],
+        command: "study",
+        options: &["--samples", "2", "--seed", "x"],
+        status: Status::Words,
+        out: "",
+        err: "words: usage\n",
+    },
+    Case {
+        tables: &[ZONE, NEVER_OUT, DAY],
+        command: "study",
+        options: &["--samples", "2", "--seed", "1", "--seed", "1"],
+        status: Status::Words,
+        out: "",
+        err: "words: usage\n",
+    },
+    Case {
+        tables: &[ZONE, NEVER_OUT, DAY],
+        command: "check",
+        options: &["--samples", "2"],
+        status: Status::Words,
+        out: "",
+        err: "words: usage\n",
+    },
+    Case {
+        tables: &[ZONE, NEVER_OUT, DAY],
+        command: "steady",
+        options: &[],
+        status: Status::Words,
+        out: "",
+        err: "words: usage\n",
+    },
+];
+
+// A sink that counts its writes.
+struct CountedSink {
+    inner: MemorySink,
+    writes: u32,
+}
+
+impl Sink for CountedSink {
+    ghost held = { λ s. Some s.inner.held };
+
+    ghost faults = { λ s. s.inner.faults };
+
+    fn write(&mut self, piece: &[u8]) -> Result<(), SinkFault> {
+        self.writes = self.writes.saturating_add(1);
+        self.inner.write(piece)
+    }
+}
+
+impl CountedSink {
+    fn new(alloc: Global, capacity: usize) -> Result<CountedSink, Fail> {
+        Ok(CountedSink {
+            inner: MemorySink::new(alloc, capacity)?,
+            writes: 0,
+        })
+    }
+}
+
+fn shelf_of(alloc: Global, tables: &[(TableName, &str)]) -> Result<MemoryShelf, Fail> {
+    let mut shelf = MemoryShelf::new(alloc);
+    for (table, text) in tables {
+        shelf.put("F", *table, text.as_bytes())?;
+    }
+    Ok(shelf)
+}
+
+fn words_of(alloc: Global, command: &str, options: &[&str]) -> Result<Vec<String>, Fail> {
+    let mut words = Vec::new(alloc);
+    words.push(String::from_str(alloc, command)?)?;
+    words.push(String::from_str(alloc, "F")?)?;
+    for option in options {
+        words.push(String::from_str(alloc, option)?)?;
+    }
+    Ok(words)
+}
+
+// The status and what both sinks hold; each is written to once where it gains something, and else never.
+#[test]
+fn answers(rt: HostRuntime) -> Result<(), Fail> {
+    let alloc = rt.alloc();
+    for case in &CASES {
+        let words = words_of(alloc, case.command, case.options)?;
+        let mut shelf = shelf_of(alloc, case.tables)?;
+        let mut out = CountedSink::new(alloc, 1000)?;
+        let mut err = CountedSink::new(alloc, 1000)?;
+        let status = adequacy(alloc, &words, &mut shelf, &mut out, &mut err);
+        assert_eq!(rt; status, case.status, "{}", case.err);
+        assert_eq!(rt; out.inner.bytes(), case.out.as_bytes(), "{}", case.out);
+        assert_eq!(rt; err.inner.bytes(), case.err.as_bytes(), "{}", case.err);
+        assert_eq!(rt; out.writes, u32::from(!case.out.is_empty()));
+        assert_eq!(rt; err.writes, u32::from(!case.err.is_empty()));
+    }
+    Ok(())
+}
+
+// A sink of each capacity below the answer's length holds exactly the first bytes of it; each read fails in turn;
+// and a full standard error changes nothing.
+#[test]
+fn faults(rt: HostRuntime) -> Result<(), Fail> {
+    let alloc = rt.alloc();
+    let words = words_of(alloc, "study", &["--samples", "2", "--seed", "1"])?;
+    let text = NOTHING_SHORT.as_bytes();
+    for (capacity, fails, room) in [
+        (0, 0, 100),
+        (1, 0, 100),
+        (10, 0, 100),
+        (11, 0, 0),
+        (text.len() - 1, 0, 5),
+        (text.len(), 0, 0),
+        (1000, 1, 100),
+        (1000, 2, 100),
+        (1000, 7, 3),
+    ] {
+        let mut shelf = shelf_of(alloc, &[ZONE, NEVER_OUT, DAY])?;
+        if fails > 0 {
+            shelf.fail(fails)?;
+        }
+        let mut out = MemorySink::new(alloc, capacity)?;
+        let mut err = MemorySink::new(alloc, room)?;
+        let status = adequacy(alloc, &words, &mut shelf, &mut out, &mut err);
+        let (want, line, held) = if fails > 0 {
+            (Status::ReadFault, "read fault\n", 0)
+        } else if capacity < text.len() {
+            (Status::WriteFault, "write fault\n", capacity)
+        } else {
+            (Status::Done, "", text.len())
+        };
+        assert_eq!(rt; status, want, "at {capacity}, {fails}");
+        assert_eq!(rt; out.bytes(), &text[..held], "at {capacity}, {fails}");
+        let told = line.len().min(room);
+        assert_eq!(rt;
+            err.bytes(),
+            &line.as_bytes()[..told],
+            "at {capacity}, {fails}"
+        );
+    }
+    Ok(())
+}
