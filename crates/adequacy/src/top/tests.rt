@@ -6,6 +6,7 @@ use std::alloc::Global;
 use std::test::Fail;
 
 // A folder, the words that follow the command and the folder, and what comes of it.
+#[derive(Clone, Copy)]
 struct Case {
     tables: &'static [(TableName, &'static str)],
     command: &'static str,
@@ -264,6 +265,7 @@ const CASES: [Case; 19] = [
 ];
 
 // A sink that counts its writes.
+#[derive(Drop)]
 struct CountedSink {
     inner: MemorySink,
     writes: u32,
@@ -286,6 +288,10 @@ impl CountedSink {
             inner: MemorySink::new(alloc, capacity)?,
             writes: 0,
         })
+    }
+
+    fn holds(&self, text: &str) -> bool {
+        self.inner.bytes() == text.as_bytes()
     }
 }
 
@@ -311,15 +317,16 @@ fn words_of(alloc: Global, command: &str, options: &[&str]) -> Result<Vec<String
 #[test]
 fn answers(rt: HostRuntime) -> Result<(), Fail> {
     let alloc = rt.alloc();
-    for case in &CASES {
+    for number in 0..CASES.len() {
+        let case = CASES[number];
         let words = words_of(alloc, case.command, case.options)?;
         let mut shelf = shelf_of(alloc, case.tables)?;
         let mut out = CountedSink::new(alloc, 1000)?;
         let mut err = CountedSink::new(alloc, 1000)?;
         let status = adequacy(alloc, &words, &mut shelf, &mut out, &mut err);
-        assert_eq!(rt; status, case.status, "{}", case.err);
-        assert_eq!(rt; out.inner.bytes(), case.out.as_bytes(), "{}", case.out);
-        assert_eq!(rt; err.inner.bytes(), case.err.as_bytes(), "{}", case.err);
+        assert_eq!(rt; status, case.status, "case {number}");
+        assert!(rt; out.holds(case.out), "case {number}");
+        assert!(rt; err.holds(case.err), "case {number}");
         assert_eq!(rt; out.writes, u32::from(!case.out.is_empty()));
         assert_eq!(rt; err.writes, u32::from(!case.err.is_empty()));
     }
