@@ -2,7 +2,7 @@
 use Rattle.std.specs.Prelude.{ℕ, List, [], ◌∷◌, ◌++◌, codes}
 use Rattle.decimal_text.specs.DecimalText.{whole_text}
 use Rattle.system_model.specs.System.{SystemParts, zone_count, unit_count, interface_count, line_count, storage_count, hour_count}
-use Rattle.system_model.specs.Components.{pooled_capacity}
+use Rattle.system_model.specs.System.{pooled_capacity}
 
 -- how many zones, units and interfaces there are
 unfoldable pub network_text : SystemParts → List ℕ

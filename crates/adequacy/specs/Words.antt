@@ -6,7 +6,7 @@ use Rattle.decimal_text.specs.declared.fault.NumberFault.{NumberFault}
 use Rattle.decimal_text.specs.Reading.{whole_of}
 use Rattle.adequacy.specs.declared.words.TheConstants.{MOST_SEED, DEFAULT_SEED}
 use Rattle.adequacy.specs.declared.words.Command.{Command}
-use Rattle.adequacy.specs.declared.words.Command.TheVariants.{Check, Study}
+use Rattle.adequacy.specs.declared.words.Command.TheVariants.{Check, Table, Index, Study}
 
 -- a folder of tables, and what is asked of its system
 pub record Line : Type 0 where
@@ -36,15 +36,17 @@ study_of (name ∷ value ∷ rest) =
     if bytes_eq name (codes "--samples") then study_with (within 1 MOST_SAMPLES (whole_of value)) (seed_of rest) else None
 study_of _ = None
 
--- a check has no option
-abbrev pub check_of : List (List ℕ) → Option Command
-check_of [] = Some Check
-check_of _ = None
+-- other commands have no option
+abbrev pub without_options : Command → List (List ℕ) → Option Command
+without_options command [] = Some command
+without_options command _ = None
 
 -- the command of a name with its options
 abbrev pub command_of : List ℕ → List (List ℕ) → Option Command
 command_of name options =
-    if bytes_eq name (codes "check") then check_of options
+    if bytes_eq name (codes "check") then without_options Check options
+    else if bytes_eq name (codes "table") then without_options Table options
+    else if bytes_eq name (codes "index") then without_options Index options
     else if bytes_eq name (codes "study") then study_of options
     else None
 

@@ -3,7 +3,7 @@ ghost use Rattle.std.specs.Prelude.{◌≡◌, ◌<◌, ◌≤◌, ◌^◌, ◌+
 ghost use Rattle.std.specs.List.{flat_map, range_with_len};
 ghost use Rattle.decimal_text.specs.DecimalText.{whole_text};
 ghost use Rattle.system_model.specs.System.{zone_count};
-ghost use Rattle.system_model.specs.Components.{pooled_capacity};
+ghost use Rattle.system_model.specs.System.{pooled_capacity};
 ghost use Rattle.sample_run.specs.Estimates.{AreSums};
 ghost use Rattle.adequacy.specs.CheckText.{network_text, further_text, peak_text, check_line};
 ghost use Rattle.adequacy.specs.FaultText.{table_text, number_fault_text, cause_text, fixed_column_text, column_text, fault_line};

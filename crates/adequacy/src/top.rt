@@ -24,8 +24,9 @@ use system_model::System;
 /// Runs the program on the words of its command line, without the program's own name.
 ///
 /// The words name a command, a folder and the command's options: `check FOLDER` tells how large the folder's system
-/// is, `study FOLDER --samples N --seed S` simulates so many samples of it. The answer goes to `out`; where there is
-/// none, one line on `err` says why.
+/// is, `table FOLDER` gives its capacity outage table, `index FOLDER` its LOLE and EUE, and
+/// `study FOLDER --samples N --seed S` simulates so many samples of it. The answer goes to `out`; where there is none,
+/// one line on `err` says why.
 pub fn adequacy<S: Shelf, O: Sink, E: Sink>(
     alloc: Global,
     words: &[String],

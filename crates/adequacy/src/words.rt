@@ -20,6 +20,10 @@ pub const DEFAULT_SEED: u64 = 1;
 pub enum Command {
     /// To tell how large it is.
     Check,
+    /// To give its capacity outage table.
+    Table,
+    /// To give its expected hours of lost load and its expected unserved energy.
+    Index,
     /// To simulate this number of samples, 1 to 1,000,000, under a seed of at most 10^18.
     Study { samples: u32, seed: u64 },
 }
@@ -57,6 +61,8 @@ fn read_command(name: &str, options: &[String]) -> Option<Command>
 {
     match name {
         "check" if options.is_empty() => Some(Command::Check),
+        "table" if options.is_empty() => Some(Command::Table),
+        "index" if options.is_empty() => Some(Command::Index),
         "study" => read_study(options),
         _ => None,
     }

@@ -1,6 +1,6 @@
 use Rattle.std.proofs.Common.{◌≡◌, ◌*◌, ◌≤◌, take}
 use Rattle.ra_base.specs.declared.limits.TheConstants.{MOST_POOLED_MW}
-use Rattle.system_model.specs.Components.{pooled_capacity}
+use Rattle.system_model.specs.System.{pooled_capacity}
 use Rattle.adequacy.proofs.report_text.pooled_capacity_of.Given as goal
 
 -- the capacity of the units so far
