@@ -1,3 +1,5 @@
 pub mod RecordLaws
 pub mod TextLaws
 pub mod RowLaws
+pub mod NameLaws
+pub mod ColumnLaws

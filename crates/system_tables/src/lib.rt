@@ -1,4 +1,9 @@
 //! The seven tables of a system's folder, read exactly: the system that they spell, or their first fault.
 #![tactic(auto)]
 
+mod columns;
+mod faults;
+mod names;
 mod records;
+
+pub use faults::{Cause, Column, ReadError, TableFault};

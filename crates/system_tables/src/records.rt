@@ -69,12 +69,14 @@ impl<'a> Records<'a> {
         self.row.len()
     }
 
-    /// A field of the record that was read last.
+    /// A field of the record that was read last; past its end an empty one.
     pub(crate) fn field(&self, at: usize) -> &[u8]
-        requires { at < length self.now.row }
         ensures { result.now ≡ slice_index_or self.now.row at [] }
     {
-        trimmed(self.row.get(at).unwrap())
+        match self.row.get(at) {
+            Some(field) => trimmed(field),
+            None => &[],
+        }
     }
 }
 
