@@ -4,3 +4,4 @@ pub mod Faults
 pub mod Outcome
 pub mod Names
 pub mod Columns
+pub mod Fields

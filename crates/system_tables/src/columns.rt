@@ -49,6 +49,7 @@ fn header_fault(table: TableName, column: Column, cause: Cause) -> TableFault
 }
 
 /// A column that the table has.
+#[tactic(auto, unfolding(crate::specs::Columns::column_in))]
 pub(crate) fn column(
     table: TableName,
     column: Column,
@@ -65,6 +66,7 @@ pub(crate) fn column(
 }
 
 /// A column that the table may have.
+#[tactic(auto, unfolding(crate::specs::Columns::optional_column_in))]
 pub(crate) fn optional_column(
     table: TableName,
     column: Column,

@@ -3,6 +3,7 @@
 
 mod columns;
 mod faults;
+mod fields;
 mod names;
 mod records;
 
