@@ -3,3 +3,5 @@ pub mod TextLaws
 pub mod RowLaws
 pub mod NameLaws
 pub mod ColumnLaws
+pub mod TurnLaws
+pub mod SoFarLaws

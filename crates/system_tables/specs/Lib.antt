@@ -5,3 +5,6 @@ pub mod Outcome
 pub mod Names
 pub mod Columns
 pub mod Fields
+pub mod Headers
+pub mod SoFar
+pub mod Zones

@@ -31,7 +31,8 @@ pub(crate) fn shape(
     width: usize,
     row: &Records<'_>,
 ) -> Result<(), TableFault>
-    ensures { result ≡ shape_in place limit count width row.now.row }
+    ensures exact { result ≡ shape_in place limit count width row.now.row }
+    ensures room { OnOk result (count < limit) }
 {
     refuse(
         limit <= count,

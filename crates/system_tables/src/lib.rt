@@ -4,7 +4,9 @@
 mod columns;
 mod faults;
 mod fields;
+mod headers;
 mod names;
 mod records;
+mod zones;
 
 pub use faults::{Cause, Column, ReadError, TableFault};
