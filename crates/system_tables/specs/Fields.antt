@@ -38,6 +38,10 @@ whole_in place found low most row = do
   value ← number place found.column (whole_of (field_of found row))
   ranged place found.column low most value
 
+-- a whole number that is compared with another field of its row
+unfoldable pub value_in : Place → FoundColumn → List (List ℕ) → Result ℕ TableFault
+value_in place found row = number place found.column (whole_of (field_of found row))
+
 -- a probability in billionths, rounded down
 unfoldable pub probability_in : Place → FoundColumn → List (List ℕ) → Result ℕ TableFault
 probability_in place found row = do

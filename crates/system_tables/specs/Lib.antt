@@ -8,3 +8,7 @@ pub mod Fields
 pub mod Headers
 pub mod SoFar
 pub mod Zones
+pub mod Units
+pub mod Interfaces
+pub mod Lines
+pub mod Storages

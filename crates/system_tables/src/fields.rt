@@ -1,10 +1,10 @@
 //! Fields by the kind of their column.
-ghost use Rattle.std.specs.Prelude.{◌≡◌, ◌+◌, ◌<◌, ◌≤◌, ◌∷◌, ◌++◌, [], length, IfOk, OnOk};
-ghost use Rattle.ra_base.specs.declared.limits.TheConstants.{BILLION, THOUSAND};
+ghost use Rattle.std.specs.Prelude.{◌≡◌, ◌+◌, ◌<◌, ◌≤◌, ◌∷◌, ◌++◌, [], length, nat_lt, IfOk, OnOk};
+ghost use Rattle.ra_base.specs.declared.limits.TheConstants.{BILLION, THOUSAND, MOST_POOLED_MW};
 ghost use Rattle.system_model.specs.System.{IsName};
 ghost use Rattle.system_tables.specs.Columns.{field_of};
-ghost use Rattle.system_tables.specs.Fields.{number, ranged, whole_in, probability_in, share_in, rates_in, some_rate_in, name_bytes_in, name_in, zone_name_in, reference_in, AreInRange};
-ghost use Rattle.system_tables.specs.Faults.{shape_in};
+ghost use Rattle.system_tables.specs.Fields.{number, ranged, whole_in, value_in, probability_in, share_in, rates_in, some_rate_in, name_bytes_in, name_in, zone_name_in, reference_in, AreInRange};
+ghost use Rattle.system_tables.specs.Faults.{fault_at, refuse, shape_in};
 ghost use Rattle.system_tables.specs.Outcome.{Gives, GivesNow};
 
 use crate::columns::FoundColumn;
@@ -12,7 +12,7 @@ use crate::faults::{Cause, Column, Place, ReadError, TableFault, refuse};
 use crate::names::Names;
 use crate::records::Records;
 use decimal_text::{NumberFault, read_billionths, read_whole};
-use ra_base::limits::{BILLION, MOST_NAME_BYTES, THOUSAND};
+use ra_base::limits::{BILLION, MOST_NAME_BYTES, MOST_POOLED_MW, THOUSAND};
 use system_model::Rates;
 
 /// The columns of the rates with which a component fails and is repaired.
@@ -56,13 +56,7 @@ fn number(place: Place, column: Column, read: Result<u64, NumberFault>) -> Resul
 
 // The value, unless it passes a bound.
 #[tactic(auto, unfolding(crate::specs::Fields::ranged))]
-fn ranged(
-    place: Place,
-    column: Column,
-    low: u64,
-    most: u64,
-    value: u64,
-) -> Result<u64, TableFault>
+fn ranged(place: Place, column: Column, low: u64, most: u64, value: u64) -> Result<u64, TableFault>
     ensures exact { result ≡ ranged place column low most value }
     ensures within { IfOk result (AreInRange low most) }
 {
@@ -93,6 +87,32 @@ pub(crate) fn whole(
     ranged(place, found.column, low, most, value)
 }
 
+/// A whole number that is compared with another field of its row.
+#[tactic(auto, unfolding(crate::specs::Fields::value_in))]
+pub(crate) fn value(place: Place, found: FoundColumn, row: &Records<'_>) -> Result<u64, TableFault>
+    ensures { result ≡ value_in place found row.now.row }
+{
+    number(place, found.column, read_whole(row.field(found.at)))
+}
+
+/// That what the rows have together so far isn't past the limit.
+pub(crate) fn pooled_within(place: Place, found: FoundColumn, sum: u32) -> Result<(), TableFault>
+    ensures exact { result ≡ refuse (nat_lt MOST_POOLED_MW sum)
+        (fault_at place found.column (Cause.OutOfRange sum MOST_POOLED_MW)) }
+    ensures within { OnOk result (sum ≤ MOST_POOLED_MW) }
+{
+    refuse(
+        MOST_POOLED_MW < sum,
+        place.fault(
+            found.column,
+            Cause::OutOfRange {
+                value: u64::from(sum),
+                limit: u64::from(MOST_POOLED_MW),
+            },
+        ),
+    )
+}
+
 // A probability in billionths.
 #[tactic(auto, unfolding(crate::specs::Fields::probability_in))]
 fn probability(place: Place, found: FoundColumn, row: &Records<'_>) -> Result<u64, TableFault>
@@ -105,11 +125,7 @@ fn probability(place: Place, found: FoundColumn, row: &Records<'_>) -> Result<u6
 
 /// An efficiency or a carryover in thousandths.
 #[tactic(auto, unfolding(crate::specs::Fields::share_in))]
-pub(crate) fn share(
-    place: Place,
-    found: FoundColumn,
-    row: &Records<'_>,
-) -> Result<u64, TableFault>
+pub(crate) fn share(place: Place, found: FoundColumn, row: &Records<'_>) -> Result<u64, TableFault>
     ensures exact { result ≡ share_in place found row.now.row }
     ensures within { IfOk result (AreInRange 1 THOUSAND) }
 {

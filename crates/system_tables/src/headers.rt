@@ -14,7 +14,5 @@ pub(crate) fn header(table: TableName, rows: &mut Records<'_>) -> Result<(), Rea
         return Ok(());
     }
     let place = Place { table, row: 1 };
-    Err(ReadError::Table(
-        place.fault(Column::Whole, Cause::NoHeader),
-    ))
+    Err(ReadError::Table(place.fault(Column::Whole, Cause::NoHeader)))
 }

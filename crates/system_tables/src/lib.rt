@@ -5,8 +5,12 @@ mod columns;
 mod faults;
 mod fields;
 mod headers;
+mod interfaces;
+mod lines;
 mod names;
 mod records;
+mod storages;
+mod units;
 mod zones;
 
 pub use faults::{Cause, Column, ReadError, TableFault};

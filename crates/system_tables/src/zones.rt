@@ -84,7 +84,10 @@ fn some_zone(names: &Names) -> Result<(), TableFault>
         table: TableName::Zones,
         row: 2,
     };
-    refuse(names.len() == 0, place.fault(Column::Fixed(0), Cause::Empty))
+    refuse(
+        names.len() == 0,
+        place.fault(Column::Fixed(0), Cause::Empty),
+    )
 }
 
 /// Adds the zones of the table, and their names.
