@@ -5,3 +5,4 @@ pub mod NameLaws
 pub mod ColumnLaws
 pub mod TurnLaws
 pub mod SoFarLaws
+pub mod HourLaws

@@ -12,3 +12,5 @@ pub mod Units
 pub mod Interfaces
 pub mod Lines
 pub mod Storages
+pub mod Hours
+pub mod Tables

@@ -15,3 +15,8 @@ abbrev pub GivesNow : {A U : Type 0} → Result A TableFault → Result U ReadEr
 GivesNow outcome (Ok _) now = outcome ≡ Ok now
 GivesNow outcome (Err (Table fault)) now = outcome ≡ Err fault
 GivesNow outcome (Err OutOfMemory) now = Unit {0}
+
+-- the same of a call that takes no memory
+abbrev pub GivesRead : {A U : Type 0} → Result A TableFault → Result U TableFault → A → Type 0
+GivesRead outcome (Ok _) now = outcome ≡ Ok now
+GivesRead outcome (Err fault) now = outcome ≡ Err fault

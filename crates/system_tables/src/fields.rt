@@ -1,5 +1,5 @@
 //! Fields by the kind of their column.
-ghost use Rattle.std.specs.Prelude.{◌≡◌, ◌+◌, ◌<◌, ◌≤◌, ◌∷◌, ◌++◌, [], length, nat_lt, IfOk, OnOk};
+ghost use Rattle.std.specs.Prelude.{◌≡◌, ◌+◌, ◌^◌, ◌<◌, ◌≤◌, ◌∷◌, ◌++◌, [], length, nat_lt, ℕ, IfOk, OnOk};
 ghost use Rattle.ra_base.specs.declared.limits.TheConstants.{BILLION, THOUSAND, MOST_POOLED_MW};
 ghost use Rattle.system_model.specs.System.{IsName};
 ghost use Rattle.system_tables.specs.Columns.{field_of};
@@ -46,7 +46,8 @@ pub(crate) fn shape(
 
 // The number, or its fault.
 fn number(place: Place, column: Column, read: Result<u64, NumberFault>) -> Result<u64, TableFault>
-    ensures { result ≡ number place column read }
+    ensures exact { result ≡ number place column read }
+    ensures same { (most : ℕ) → IfOk read (λ value. value ≤ most) → IfOk result (λ value. value ≤ most) }
 {
     match read {
         Ok(value) => Ok(value),
@@ -90,7 +91,8 @@ pub(crate) fn whole(
 /// A whole number that is compared with another field of its row.
 #[tactic(auto, unfolding(crate::specs::Fields::value_in))]
 pub(crate) fn value(place: Place, found: FoundColumn, row: &Records<'_>) -> Result<u64, TableFault>
-    ensures { result ≡ value_in place found row.now.row }
+    ensures exact { result ≡ value_in place found row.now.row }
+    ensures small { IfOk result (λ value. value ≤ 10 ^ 18) }
 {
     number(place, found.column, read_whole(row.field(found.at)))
 }

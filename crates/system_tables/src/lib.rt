@@ -5,6 +5,7 @@ mod columns;
 mod faults;
 mod fields;
 mod headers;
+mod hours;
 mod interfaces;
 mod lines;
 mod names;
