@@ -68,3 +68,16 @@ pub record AreStoragesSoFar (draft : SystemParts) (zones names : List (List ℕ)
   pub discharge_is : discharge ≡ pooled_discharge draft.storages
   pub discharge_most : discharge ≤ MOST_POOLED_MW
   pub later : draft.hours ≡ []
+
+-- the units are read, the lines are, the storages are
+pub record AreUnitsRead (draft : SystemParts) (zones : List (List ℕ)) : Type 0 where
+  pub zones_are : AreZones draft zones
+  pub later : behind_units draft ≡ no_parts
+
+pub record AreLinesRead (draft : SystemParts) (zones : List (List ℕ)) : Type 0 where
+  pub zones_are : AreZones draft zones
+  pub later : behind_lines draft ≡ no_parts
+
+pub record AreStoragesRead (draft : SystemParts) (zones : List (List ℕ)) : Type 0 where
+  pub zones_are : AreZones draft zones
+  pub later : draft.hours ≡ []

@@ -1,6 +1,8 @@
 //! The tables of load and of variable generation.
-ghost use Rattle.std.specs.Prelude.{◌≡◌, ◌+◌, ◌*◌, ◌<◌, ◌≤◌, [], ◌∷◌, ◌++◌, length, sum, vec_len, All, OnOk, IfOk, MatchResult, Ok, Err, Option, None, ℕ};
+ghost use Rattle.std.specs.Prelude.{◌≡◌, ◌+◌, ◌*◌, ◌<◌, ◌≤◌, [], ◌∷◌, ◌++◌, length, sum, vec_len, All, OnOk, IfOk, replicate, Option, None, ℕ};
 ghost use Rattle.ra_base.specs.declared.limits.TheConstants.{MOST_ZONES, MOST_HOURS, MOST_POOLED_MW};
+ghost use Rattle.system_model.specs.System.{zone_count, hour_count};
+ghost use Rattle.system_tables.specs.SoFar.{AreZones};
 ghost use Rattle.system_tables.specs.Faults.{in_turn, table_in};
 ghost use Rattle.system_tables.specs.Hours.{amount_column_in, next_column_in, hour_order_in, amount_in, next_amount_in, row_within_in, hours_above, hour_in, hour_rows_in, amounts_in, some_hour_in, all_hours_in, variables_in, hours_of, with_hours, IsAmountRow, IsHoursRead};
 ghost use Rattle.system_tables.specs.Outcome.{Gives, GivesNow, GivesRead};
@@ -12,7 +14,7 @@ use crate::headers::header;
 use crate::names::Names;
 use crate::records::Records;
 use ra_base::limits::{MOST_HOURS, MOST_POOLED_MW};
-use ra_base::{Amounts, TableName, Text};
+use ra_base::{Amounts, OutOfMemory, TableName, Text};
 use std::alloc::Global;
 use system_model::Draft;
 
@@ -282,5 +284,157 @@ fn read_amounts(
         &mut rows,
         &mut columns,
         amounts,
+    )
+}
+
+// That there is an hour.
+#[tactic(auto, unfolding(crate::specs::Hours::some_hour_in))]
+fn some_hour(hours: u32) -> Result<(), TableFault>
+    ensures exact { result ≡ some_hour_in hours }
+    ensures some { OnOk result (0 < hours) }
+{
+    let place = Place {
+        table: TableName::Load,
+        row: 2,
+    };
+    refuse(hours == 0, place.fault(Column::Fixed(0), Cause::Empty))
+}
+
+// That there are as many hours as wanted.
+#[tactic(auto, unfolding(crate::specs::Hours::all_hours_in))]
+fn all_hours(hours: u32, wanted: u32) -> Result<(), TableFault>
+    requires few { hours ≤ MOST_HOURS }
+    ensures exact { result ≡ all_hours_in hours wanted }
+    ensures all { OnOk result (wanted ≤ hours) }
+{
+    let place = Place {
+        table: TableName::Variable,
+        row: hours + 2,
+    };
+    refuse(
+        hours < wanted,
+        place.fault(
+            Column::Fixed(0),
+            Cause::HourOrder {
+                found: u64::from(hours),
+                wanted: u64::from(wanted),
+            },
+        ),
+    )
+}
+
+// Adds so many hours without variable generation.
+fn add_zeros(
+    alloc: Global,
+    zones: usize,
+    hours: u32,
+    variables: &mut Vec<Amounts>,
+) -> Result<(), OutOfMemory>
+    requires none { variables.old.items ≡ [] }
+    ensures { OnOk result (variables.new.items ≡ replicate hours (replicate zones 0)) }
+{
+    for _hour in 0..hours {
+        variables.push(Amounts::zeros(alloc, zones)?)?;
+    }
+    Ok(())
+}
+
+// Reads the variable generation, where there is such a table.
+#[tactic(auto, unfolding(crate::specs::Hours::variables_in), using(crate::proofs::HourLaws::zero_rows))]
+fn read_variables(
+    alloc: Global,
+    hours: u32,
+    zones: &Names,
+    table: &Option<Text>,
+    variables: &mut Vec<Amounts>,
+) -> Result<(), ReadError>
+    requires few { length zones.now ≤ MOST_ZONES }
+    requires limit { hours ≤ MOST_HOURS }
+    requires none { variables.old.items ≡ [] }
+    ensures exact { GivesNow (variables_in zones.now hours table.now) result variables.new.items }
+    ensures size { OnOk result (length variables.new.items ≡ hours) }
+    ensures rows { OnOk result (All (IsAmountRow (length zones.now)) variables.new.items) }
+{
+    let Some(table) = table else {
+        add_zeros(alloc, zones.len(), hours, variables)?;
+        return Ok(());
+    };
+    let name = TableName::Variable;
+    read_amounts(alloc, false, name, hours, zones, table.bytes(), variables)?;
+    all_hours(variables.len() as u32, hours)?;
+    Ok(())
+}
+
+// Adds the hours to the draft.
+fn push_hours(
+    draft: &mut Draft,
+    loads: &[Amounts],
+    variables: &[Amounts],
+) -> Result<(), OutOfMemory>
+    requires before { draft.old.hours ≡ [] }
+    requires few { length loads.now ≤ MOST_HOURS }
+    requires size { length variables.now ≡ length loads.now }
+    requires loads { All (IsAmountRow (zone_count draft.old)) loads.now }
+    requires variables { All (IsAmountRow (zone_count draft.old)) variables.now }
+    ensures { OnOk result (draft.new ≡ record draft.old { hours = hours_of loads.now variables.now }) }
+{
+    for hour in 0..loads.len() {
+        draft.push_hour(&loads[hour], &variables[hour])?;
+    }
+    Ok(())
+}
+
+// Reads the hours of the two tables.
+#[tactic(auto, unfolding(crate::specs::Hours::with_hours))]
+fn add_both(
+    alloc: Global,
+    load: &[u8],
+    variable: &Option<Text>,
+    zones: &Names,
+    draft: &mut Draft,
+    loads: &mut Vec<Amounts>,
+    variables: &mut Vec<Amounts>,
+) -> Result<(), ReadError>
+    requires zones_are { AreZones draft.old zones.now }
+    requires before { draft.old.hours ≡ [] }
+    requires no_loads { loads.old.items ≡ [] }
+    requires no_variables { variables.old.items ≡ [] }
+    ensures exact { GivesNow (with_hours draft.old load.now variable.now) result draft.new }
+    ensures some { OnOk result (0 < hour_count draft.new) }
+    ensures zones { OnOk result (draft.new.zone_names ≡ zones.now) }
+{
+    let name = TableName::Load;
+    read_amounts(alloc, true, name, MOST_HOURS, zones, load, loads)?;
+    let hours = loads.len() as u32;
+    some_hour(hours)?;
+    read_variables(alloc, hours, zones, variable, variables)?;
+    push_hours(draft, loads, variables)?;
+    Ok(())
+}
+
+/// Adds the hours of the tables `load` and `variable`; without the latter none has variable generation.
+pub(crate) fn read_hours(
+    alloc: Global,
+    load: &[u8],
+    variable: &Option<Text>,
+    zones: &Names,
+    draft: &mut Draft,
+) -> Result<(), ReadError>
+    requires zones_are { AreZones draft.old zones.now }
+    requires before { draft.old.hours ≡ [] }
+    ensures exact { GivesNow (with_hours draft.old load.now variable.now) result draft.new }
+    ensures some { OnOk result (0 < hour_count draft.new) }
+    ensures zones { OnOk result (draft.new.zone_names ≡ zones.now) }
+{
+    let mut loads = Vec::new(alloc);
+    let mut variables = Vec::new(alloc);
+    add_both(
+        alloc,
+        load,
+        variable,
+        zones,
+        draft,
+        &mut loads,
+        &mut variables,
     )
 }

@@ -1,10 +1,11 @@
 //! The table of interfaces.
 ghost use Rattle.std.specs.Prelude.{◌≡◌, ◌+◌, ◌<◌, ◌≤◌, [], ◌∷◌, length, OnOk, IfOk};
 ghost use Rattle.system_model.specs.Components.{IsInterfaceAmong};
-ghost use Rattle.system_tables.specs.Faults.{in_turn};
+ghost use Rattle.system_tables.specs.Faults.{in_turn, table_in};
 ghost use Rattle.system_tables.specs.Outcome.{GivesNow};
 ghost use Rattle.system_tables.specs.Interfaces.{interface_columns_in, interface_of, interface_in, interface_rows_in, with_interfaces};
-ghost use Rattle.system_tables.specs.SoFar.{AreUnitsSoFar, AreInterfacesSoFar};
+ghost use Rattle.system_tables.specs.SoFar.{AreUnitsRead, AreInterfacesSoFar};
+ghost use Rattle.system_tables.specs.Tables.{where_there};
 
 use crate::columns::{FoundColumn, column};
 use crate::faults::{Cause, Column, Place, ReadError, TableFault, refuse};
@@ -12,8 +13,8 @@ use crate::fields::{new_name, reference, shape, whole};
 use crate::headers::header;
 use crate::names::Names;
 use crate::records::Records;
-use ra_base::TableName;
 use ra_base::limits::{MOST_INTERFACES, MOST_LINK_MW};
+use ra_base::{TableName, Text};
 use std::alloc::Global;
 use system_model::{Draft, Interface};
 
@@ -116,4 +117,43 @@ fn add_interfaces(
         add_interface(draft, names, zones, columns, width, rows)?;
     }
     Ok(())
+}
+
+// Adds the interfaces of a table whose header stands in front.
+#[tactic(auto, unfolding(crate::specs::Interfaces::interface_rows_in))]
+fn read_rows(
+    draft: &mut Draft,
+    names: &mut Names,
+    zones: &Names,
+    rows: &mut Records<'_>,
+) -> Result<(), ReadError>
+    requires so_far { AreInterfacesSoFar draft.old zones.now names.old }
+    ensures exact { GivesNow (table_in TableName.Interfaces rows.old.rest (interface_rows_in draft.old)) result draft.new }
+    ensures so_far { OnOk result (AreInterfacesSoFar draft.new zones.now names.new) }
+{
+    header(TableName::Interfaces, rows)?;
+    let columns = interface_columns(rows)?;
+    let width = rows.len();
+    add_interfaces(draft, names, zones, &columns, width, rows)
+}
+
+/// Adds the interfaces of the table, where there is one, and their names.
+#[tactic(auto, using(crate::proofs::SoFarLaws::start_interfaces), unfolding(crate::specs::Tables::where_there))]
+pub(crate) fn read_interfaces(
+    alloc: Global,
+    table: &Option<Text>,
+    zones: &Names,
+    names: &mut Names,
+    draft: &mut Draft,
+) -> Result<(), ReadError>
+    requires so_far { AreUnitsRead draft.old zones.now }
+    requires no_names { names.old ≡ [] }
+    ensures exact { GivesNow (where_there with_interfaces draft.old table.now) result draft.new }
+    ensures so_far { OnOk result (AreInterfacesSoFar draft.new zones.now names.new) }
+{
+    let Some(table) = table else {
+        return Ok(());
+    };
+    let mut rows = Records::new(alloc, table.bytes());
+    read_rows(draft, names, zones, &mut rows)
 }

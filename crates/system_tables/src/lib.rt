@@ -11,7 +11,9 @@ mod lines;
 mod names;
 mod records;
 mod storages;
+mod tables;
 mod units;
 mod zones;
 
 pub use faults::{Cause, Column, ReadError, TableFault};
+pub use tables::read_system;

@@ -1,10 +1,11 @@
 //! The table of lines.
 ghost use Rattle.std.specs.Prelude.{◌≡◌, ◌+◌, ◌<◌, ◌≤◌, [], ◌∷◌, length, OnOk, IfOk};
 ghost use Rattle.system_model.specs.Components.{IsLineAmong};
-ghost use Rattle.system_tables.specs.Faults.{in_turn};
+ghost use Rattle.system_tables.specs.Faults.{in_turn, table_in};
 ghost use Rattle.system_tables.specs.Outcome.{GivesNow};
 ghost use Rattle.system_tables.specs.Lines.{line_columns_in, line_of, line_in, line_rows_in, with_lines};
-ghost use Rattle.system_tables.specs.SoFar.{AreInterfacesSoFar, AreLinesSoFar};
+ghost use Rattle.system_tables.specs.SoFar.{AreInterfacesSoFar, AreLinesRead, AreLinesSoFar};
+ghost use Rattle.system_tables.specs.Tables.{where_there};
 
 use crate::columns::{FoundColumn, column};
 use crate::faults::{Column, Place, ReadError, TableFault};
@@ -12,8 +13,8 @@ use crate::fields::{RateColumns, new_name, rates, reference, shape, some_rate, w
 use crate::headers::header;
 use crate::names::Names;
 use crate::records::Records;
-use ra_base::TableName;
 use ra_base::limits::{MOST_LINES, MOST_LINK_MW};
+use ra_base::{TableName, Text};
 use std::alloc::Global;
 use system_model::{Draft, Line};
 
@@ -113,10 +114,50 @@ fn add_lines(
 ) -> Result<(), ReadError>
     requires so_far { AreLinesSoFar draft.old zones.now interfaces.now names.old }
     ensures exact { GivesNow (in_turn (line_in columns.now width) draft.old rows.old.rest) result draft.new }
-    ensures so_far { OnOk result (AreLinesSoFar draft.new zones.now interfaces.now names.new) }
+    ensures so_far { OnOk result (AreLinesRead draft.new zones.now) }
 {
     'rows: while rows.next()? {
         add_line(draft, names, zones, interfaces, columns, width, rows)?;
     }
     Ok(())
+}
+
+// Adds the lines of a table whose header stands in front.
+#[tactic(auto, unfolding(crate::specs::Lines::line_rows_in))]
+fn read_rows(
+    draft: &mut Draft,
+    names: &mut Names,
+    zones: &Names,
+    interfaces: &Names,
+    rows: &mut Records<'_>,
+) -> Result<(), ReadError>
+    requires so_far { AreLinesSoFar draft.old zones.now interfaces.now names.old }
+    ensures exact { GivesNow (table_in TableName.Lines rows.old.rest (line_rows_in draft.old)) result draft.new }
+    ensures so_far { OnOk result (AreLinesRead draft.new zones.now) }
+{
+    header(TableName::Lines, rows)?;
+    let columns = line_columns(rows)?;
+    let width = rows.len();
+    add_lines(draft, names, zones, interfaces, &columns, width, rows)
+}
+
+/// Adds the lines of the table, where there is one.
+#[tactic(auto, using(crate::proofs::SoFarLaws::start_lines), unfolding(crate::specs::Tables::where_there))]
+pub(crate) fn read_lines(
+    alloc: Global,
+    table: &Option<Text>,
+    zones: &Names,
+    interfaces: &Names,
+    draft: &mut Draft,
+) -> Result<(), ReadError>
+    requires so_far { AreInterfacesSoFar draft.old zones.now interfaces.now }
+    ensures exact { GivesNow (where_there with_lines draft.old table.now) result draft.new }
+    ensures so_far { OnOk result (AreLinesRead draft.new zones.now) }
+{
+    let Some(table) = table else {
+        return Ok(());
+    };
+    let mut names = Names::new(alloc);
+    let mut rows = Records::new(alloc, table.bytes());
+    read_rows(draft, &mut names, zones, interfaces, &mut rows)
 }

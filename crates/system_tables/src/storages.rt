@@ -1,10 +1,11 @@
 //! The table of storages.
-ghost use Rattle.std.specs.Prelude.{◌≡◌, ◌+◌, ◌<◌, ◌≤◌, [], ◌∷◌, length, nat_lt, OnOk, IfOk, ℕ};
+ghost use Rattle.std.specs.Prelude.{◌≡◌, ◌+◌, ◌<◌, ◌≤◌, [], ◌∷◌, length, nat_lt, OnOk, IfOk};
 ghost use Rattle.system_model.specs.Components.{IsStorageAmong};
-ghost use Rattle.system_tables.specs.Faults.{fault_at, refuse, in_turn};
+ghost use Rattle.system_tables.specs.Faults.{fault_at, refuse, in_turn, table_in};
 ghost use Rattle.system_tables.specs.Outcome.{GivesNow};
 ghost use Rattle.system_tables.specs.Storages.{storage_columns_in, storage_of, storage_in, storage_rows_in, with_storages};
-ghost use Rattle.system_tables.specs.SoFar.{AreLinesSoFar, AreStoragesSoFar};
+ghost use Rattle.system_tables.specs.SoFar.{AreLinesRead, AreStoragesRead, AreStoragesSoFar};
+ghost use Rattle.system_tables.specs.Tables.{where_there};
 
 use crate::columns::{FoundColumn, column};
 use crate::faults::{Cause, Column, Place, ReadError, TableFault, refuse};
@@ -14,8 +15,8 @@ use crate::fields::{
 use crate::headers::header;
 use crate::names::Names;
 use crate::records::Records;
-use ra_base::TableName;
 use ra_base::limits::{MOST_ENERGY_KWH, MOST_POOLED_MW, MOST_STORAGES};
+use ra_base::{TableName, Text};
 use std::alloc::Global;
 use system_model::{Draft, Storage};
 
@@ -164,7 +165,7 @@ fn add_storages(
 ) -> Result<(), ReadError>
     requires so_far { AreStoragesSoFar draft.old zones.now names.old 0 0 }
     ensures exact { GivesNow (in_turn (storage_in columns.now width) draft.old rows.old.rest) result draft.new }
-    ensures so_far { OnOk result ((charge discharge : ℕ) × AreStoragesSoFar draft.new zones.now names.new charge discharge) }
+    ensures so_far { OnOk result (AreStoragesRead draft.new zones.now) }
 {
     let mut charge = 0;
     let mut discharge = 0;
@@ -181,4 +182,42 @@ fn add_storages(
         )?;
     }
     Ok(())
+}
+
+// Adds the storages of a table whose header stands in front.
+#[tactic(auto, unfolding(crate::specs::Storages::storage_rows_in))]
+fn read_rows(
+    draft: &mut Draft,
+    names: &mut Names,
+    zones: &Names,
+    rows: &mut Records<'_>,
+) -> Result<(), ReadError>
+    requires so_far { AreStoragesSoFar draft.old zones.now names.old 0 0 }
+    ensures exact { GivesNow (table_in TableName.Storages rows.old.rest (storage_rows_in draft.old)) result draft.new }
+    ensures so_far { OnOk result (AreStoragesRead draft.new zones.now) }
+{
+    header(TableName::Storages, rows)?;
+    let columns = storage_columns(rows)?;
+    let width = rows.len();
+    add_storages(draft, names, zones, &columns, width, rows)
+}
+
+/// Adds the storages of the table, where there is one.
+#[tactic(auto, using(crate::proofs::SoFarLaws::start_storages), unfolding(crate::specs::Tables::where_there))]
+pub(crate) fn read_storages(
+    alloc: Global,
+    table: &Option<Text>,
+    zones: &Names,
+    draft: &mut Draft,
+) -> Result<(), ReadError>
+    requires so_far { AreLinesRead draft.old zones.now }
+    ensures exact { GivesNow (where_there with_storages draft.old table.now) result draft.new }
+    ensures so_far { OnOk result (AreStoragesRead draft.new zones.now) }
+{
+    let Some(table) = table else {
+        return Ok(());
+    };
+    let mut names = Names::new(alloc);
+    let mut rows = Records::new(alloc, table.bytes());
+    read_rows(draft, &mut names, zones, &mut rows)
 }

@@ -1,10 +1,10 @@
 //! The table of units.
-ghost use Rattle.std.specs.Prelude.{◌≡◌, ◌+◌, ◌<◌, ◌≤◌, [], ◌∷◌, length, OnOk, IfOk, ℕ};
+ghost use Rattle.std.specs.Prelude.{◌≡◌, ◌+◌, ◌<◌, ◌≤◌, [], ◌∷◌, length, OnOk, IfOk};
 ghost use Rattle.system_model.specs.Components.{IsUnitAmong};
-ghost use Rattle.system_tables.specs.Faults.{in_turn};
+ghost use Rattle.system_tables.specs.Faults.{in_turn, table_in};
 ghost use Rattle.system_tables.specs.Outcome.{GivesNow};
 ghost use Rattle.system_tables.specs.Units.{unit_columns_in, unit_of, unit_in, unit_rows_in, with_units};
-ghost use Rattle.system_tables.specs.SoFar.{AreZonesSoFar, AreUnitsSoFar};
+ghost use Rattle.system_tables.specs.SoFar.{AreZonesSoFar, AreUnitsRead, AreUnitsSoFar};
 
 use crate::columns::{FoundColumn, column};
 use crate::faults::{Column, Place, ReadError, TableFault};
@@ -111,11 +111,46 @@ fn add_units(
 ) -> Result<(), ReadError>
     requires so_far { AreUnitsSoFar draft.old zones.now names.old 0 }
     ensures exact { GivesNow (in_turn (unit_in columns.now width) draft.old rows.old.rest) result draft.new }
-    ensures so_far { OnOk result ((pooled : ℕ) × AreUnitsSoFar draft.new zones.now names.new pooled) }
+    ensures so_far { OnOk result (AreUnitsRead draft.new zones.now) }
 {
     let mut pooled = 0;
     'rows: while rows.next()? {
         add_unit(draft, names, &mut pooled, zones, columns, width, rows)?;
     }
     Ok(())
+}
+
+// Adds the units of a table whose header stands in front.
+#[tactic(auto, unfolding(crate::specs::Units::unit_rows_in))]
+fn read_rows(
+    draft: &mut Draft,
+    names: &mut Names,
+    zones: &Names,
+    rows: &mut Records<'_>,
+) -> Result<(), ReadError>
+    requires so_far { AreUnitsSoFar draft.old zones.now names.old 0 }
+    ensures exact { GivesNow (table_in TableName.Units rows.old.rest (unit_rows_in draft.old)) result draft.new }
+    ensures so_far { OnOk result (AreUnitsRead draft.new zones.now) }
+{
+    header(TableName::Units, rows)?;
+    let columns = unit_columns(rows)?;
+    let width = rows.len();
+    add_units(draft, names, zones, &columns, width, rows)
+}
+
+/// Adds the units of the table.
+#[tactic(auto, using(crate::proofs::SoFarLaws::start_units))]
+pub(crate) fn read_units(
+    alloc: Global,
+    table: &[u8],
+    zones: &Names,
+    draft: &mut Draft,
+) -> Result<(), ReadError>
+    requires so_far { AreZonesSoFar draft.old zones.now }
+    ensures exact { GivesNow (with_units draft.old table.now) result draft.new }
+    ensures so_far { OnOk result (AreUnitsRead draft.new zones.now) }
+{
+    let mut names = Names::new(alloc);
+    let mut rows = Records::new(alloc, table);
+    read_rows(draft, &mut names, zones, &mut rows)
 }
