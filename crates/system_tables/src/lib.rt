@@ -17,3 +17,6 @@ mod zones;
 
 pub use faults::{Cause, Column, ReadError, TableFault};
 pub use tables::read_system;
+
+#[cfg(test)]
+mod tests;
