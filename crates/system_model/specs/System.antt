@@ -6,7 +6,7 @@ use Rattle.system_model.specs.declared.components.Unit.{Unit as UnitPart}
 use Rattle.system_model.specs.declared.components.Interface.{Interface}
 use Rattle.system_model.specs.declared.components.Line.{Line}
 use Rattle.system_model.specs.declared.components.Storage.{Storage}
-use Rattle.system_model.specs.Components.{IsUnitAmong, IsInterfaceAmong, IsLineAmong, IsStorageAmong, pooled_capacity, pooled_charge, pooled_discharge, no_unit, no_interface, no_line, no_storage}
+pub use Rattle.system_model.specs.Components.{IsUnitAmong, IsInterfaceAmong, IsLineAmong, IsStorageAmong, pooled_capacity, pooled_charge, pooled_discharge, no_unit, no_interface, no_line, no_storage}
 
 -- what an hour asks and gives in each zone, in MW and in the zones' order
 pub record HourAmounts : Type 0 where

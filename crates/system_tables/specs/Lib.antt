@@ -1,0 +1,16 @@
+pub mod Records
+pub mod Reader
+pub mod Faults
+pub mod Outcome
+pub mod Names
+pub mod Columns
+pub mod Fields
+pub mod Headers
+pub mod SoFar
+pub mod Zones
+pub mod Units
+pub mod Interfaces
+pub mod Lines
+pub mod Storages
+pub mod Hours
+pub mod Tables
