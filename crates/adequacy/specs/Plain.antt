@@ -4,7 +4,7 @@ use Rattle.std.specs.Str.{bytes_eq}
 use Rattle.std.specs.Str.Parse.{digits_value}
 use Rattle.std.specs.List.{list_all, list_any, AllByRecursion}
 use Rattle.system_model.specs.declared.components.Unit.{Unit as UnitPart}
-use Rattle.system_model.specs.System.{SystemParts, HourAmounts, amounts_of}
+use Rattle.system_model.specs.System.{SystemParts, HourAmounts, amounts_of, no_parts}
 use Rattle.ra_base.specs.declared.table.TableName.{TableName}
 use Rattle.ra_base.specs.declared.table.TableName.TheVariants.{Zones, Units, Load}
 use Rattle.adequacy.specs.Words.{is_numeral}
@@ -130,7 +130,7 @@ hour_of load = amounts_of (value_of load ∷ []) (0 ∷ [])
 -- the system of a zone, of rows and of loads
 abbrev pub system_of : List ℕ → List UnitRow → List (List ℕ) → SystemParts
 system_of zone rows loads =
-    record {
+    record no_parts {
       zone_names = zone ∷ [];
       units = map unit_of rows;
       unit_names = map (λ row. row.name) rows;

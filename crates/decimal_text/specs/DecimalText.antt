@@ -1,6 +1,5 @@
 -- The decimal text of a number, whole or with a fixed number of digits behind the point.
 use Rattle.std.specs.Prelude.{◌≡◌, ℕ, ◌-◌, ◌*◌, ◌/◌, ◌%◌, ◌^◌, List, ◌∷◌, ◌++◌, length, replicate, decimal}
-use Rattle.ra_base.specs.Causes.{IsFirstPart}
 use Rattle.decimal_text.specs.Numeral.{Numeral, Spells, behind_point, top, bottom, IsWorth}
 
 -- the digits, without leading zeros
@@ -14,10 +13,6 @@ padded_text value places = replicate (places - length (decimal value)) 48 ++ dec
 -- value / 10 ^ places, with `places` digits behind the point (46)
 unfoldable pub fixed_text : ℕ → ℕ → List ℕ
 fixed_text value places = whole_text (value / 10 ^ places) ++ 46 ∷ padded_text (value % 10 ^ places) places
-
--- now is before with the first bytes of the text at its end, perhaps none, perhaps all
-abbrev pub AppendsPart : List ℕ → List ℕ → List ℕ → Type 0
-AppendsPart before now text = (part : List ℕ) × IsFirstPart part text × (now ≡ before ++ part)
 
 -- the text spells a numeral that is worth the value
 abbrev pub IsNumeralOf : List ℕ → ℕ → Type 0

@@ -1,9 +1,9 @@
 -- Folders of tables in memory, as their users see them.
 use Rattle.std.specs.Prelude.{ℕ, List, [], ◌∷◌, Bool, ◌==◌, ◌&&◌, Some, None, Result, if◌then◌else◌}
 use Rattle.std.specs.Str.{bytes_eq}
-use Rattle.ra_base.specs.Causes.{one_more}
-use Rattle.ra_base.specs.Outside.{Tables, is_missing, is_too_long, is_read_fault}
-use Rattle.ra_base.specs.declared.shelf.ShelfError.{ShelfError}
+use Rattle.ra_base.specs.Outside.{Tables}
+use Rattle.ra_base.specs.Reading.{Reading}
+use Rattle.ra_base.specs.declared.shelf_counts.ShelfCounts.{ShelfCounts}
 use Rattle.ra_base.specs.declared.table.TableName.{TableName}
 use Rattle.ra_base.specs.declared.table.TableName.TheVariants.{Zones, Units, Interfaces, Lines, Storages, Load, Variable}
 use Rattle.ra_base.specs.declared.memory_shelf.Entry.{Entry}
@@ -44,14 +44,14 @@ failing_of shelf = shelf.failing.items
 abbrev pub calls_of : MemoryShelf → ℕ
 calls_of shelf = shelf.calls
 
--- how often a table was missing, was too long, and how often a read failed, after a read
-abbrev pub counted : ℕ × ℕ × ℕ → Result (List ℕ) ShelfError → ℕ × ℕ × ℕ
-counted (misses, overlong, faults) answer = (
-  (if is_missing answer then one_more misses else misses),
-  (if is_too_long answer then one_more overlong else overlong),
-  (if is_read_fault answer then one_more faults else faults),
-)
-
 -- how often a table was missing, was too long, and how often a read failed
-abbrev pub counts_of : MemoryShelf → ℕ × ℕ × ℕ
-counts_of shelf = (shelf.misses, shelf.overlong, shelf.faults)
+abbrev pub counts_of : MemoryShelf → ShelfCounts
+counts_of shelf = shelf.counts
+
+-- nothing was counted yet
+abbrev pub no_counts : ShelfCounts
+no_counts = record { misses = 0; overlong = 0; faults = 0 }
+
+-- what the reads have answered
+abbrev pub reads_of : MemoryShelf → List Reading
+reads_of shelf = shelf.log.items

@@ -1,6 +1,7 @@
 -- What a shelf of tables and a sink of bytes answer.
 use Rattle.std.specs.Prelude.{◌≡◌, ◌≤◌, ◌<◌, ℕ, List, Bool, true, false, Option, Some, None, Result, Ok, Err, length}
 use Rattle.ra_base.specs.Causes.{Gained, GainedPart}
+use Rattle.ra_base.specs.declared.limits.TheConstants.{MOST_TABLE_BYTES}
 use Rattle.ra_base.specs.declared.table.TableName.{TableName}
 use Rattle.ra_base.specs.declared.status.Status.{Status}
 use Rattle.ra_base.specs.declared.status.Status.TheVariants.{Done, Words, Table, ReadFault, WriteFault, OutOfMemory, Cancelled, RecorderRefused}
@@ -12,15 +13,11 @@ use Rattle.ra_base.specs.declared.shelf.ShelfError.TheVariants.{OutOfMemory as N
 abbrev pub Tables : Type 0
 Tables = List ℕ → TableName → Option (List ℕ)
 
--- a table of more than 64 MiB is too long
-abbrev pub table_limit : ℕ
-table_limit = 67108864
-
 -- a read's answer is that of the stored table: its bytes, or that there is none, or that it is too long
 abbrev pub ReadsAs : Option (List ℕ) → Result (List ℕ) ShelfError → Type 0
-ReadsAs stored (Ok text) = (stored ≡ Some text) × (length text ≤ table_limit)
+ReadsAs stored (Ok text) = (stored ≡ Some text) × (length text ≤ MOST_TABLE_BYTES)
 ReadsAs stored (Err Missing) = stored ≡ None
-ReadsAs stored (Err TooLong) = (text : List ℕ) × (stored ≡ Some text) × (table_limit < length text)
+ReadsAs stored (Err TooLong) = (text : List ℕ) × (stored ≡ Some text) × (MOST_TABLE_BYTES < length text)
 ReadsAs stored (Err Fault) = Unit {0}
 ReadsAs stored (Err NoMemory) = Unit {0}
 
@@ -28,27 +25,6 @@ ReadsAs stored (Err NoMemory) = Unit {0}
 abbrev pub ReadsTold : Option Tables → List ℕ → TableName → Result (List ℕ) ShelfError → Type 0
 ReadsTold None folder table answer = Unit {0}
 ReadsTold (Some tables) folder table answer = ReadsAs (tables folder table) answer
-
-abbrev pub is_missing : Result (List ℕ) ShelfError → Bool
-is_missing (Ok text) = false
-is_missing (Err Missing) = true
-is_missing (Err TooLong) = false
-is_missing (Err Fault) = false
-is_missing (Err NoMemory) = false
-
-abbrev pub is_too_long : Result (List ℕ) ShelfError → Bool
-is_too_long (Ok text) = false
-is_too_long (Err Missing) = false
-is_too_long (Err TooLong) = true
-is_too_long (Err Fault) = false
-is_too_long (Err NoMemory) = false
-
-abbrev pub is_read_fault : Result (List ℕ) ShelfError → Bool
-is_read_fault (Ok text) = false
-is_read_fault (Err Missing) = false
-is_read_fault (Err TooLong) = false
-is_read_fault (Err Fault) = true
-is_read_fault (Err NoMemory) = false
 
 -- a write's answer: after Ok the whole piece was appended, after a fault the first bytes of it
 abbrev pub Writes : {E : Type 0} → Option (List ℕ) → Option (List ℕ) → List ℕ → Result (Unit {0}) E → Type 0

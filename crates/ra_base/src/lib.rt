@@ -7,7 +7,10 @@ pub mod limits;
 mod memory;
 mod memory_shelf;
 mod memory_sink;
+mod pause;
+mod read_log;
 mod shelf;
+mod shelf_counts;
 mod sink;
 mod status;
 mod table;
@@ -17,10 +20,13 @@ pub use amounts::Amounts;
 pub use memory::OutOfMemory;
 pub use memory_shelf::MemoryShelf;
 pub use memory_sink::MemorySink;
+pub use pause::{NoPause, Pause};
+pub use read_log::{ReadLog, ReadNote};
 pub use shelf::{Shelf, ShelfError};
+pub use shelf_counts::ShelfCounts;
 pub use sink::{Sink, SinkFault};
 pub use status::Status;
-pub use table::TableName;
+pub use table::{TableBytes, TableName};
 pub use text::Text;
 
 #[cfg(test)]

@@ -1,15 +1,15 @@
 ghost use Rattle.std.specs.Prelude.{◌≡◌, ◌↔◌, ◌+◌, ◌-◌, ◌<◌, ◌≤◌, ◌^◌, ◌++◌, [], ◌∷◌, None, Some, Contains, IsErrOf, OnOk, OnErr, List, ℕ, min};
 ghost use Rattle.std.specs.Option.{option_copied};
-ghost use Rattle.ra_base.specs.Causes.{Counts, one_more};
-ghost use Rattle.ra_base.specs.Outside.{ReadsAs, is_missing, is_too_long, is_read_fault};
+ghost use Rattle.ra_base.specs.Causes.{one_more};
+ghost use Rattle.ra_base.specs.Outside.{ReadsAs};
+ghost use Rattle.ra_base.specs.Reading.{reading};
+ghost use Rattle.ra_base.specs.ShelfCounts.{counted};
 ghost use Rattle.ra_base.specs.declared.table.TableName.{TableName};
-ghost use Rattle.ra_base.specs.MemoryShelf.{tables_of, failing_of, calls_of, counts_of, counted, with_table, shelved, is_same};
+ghost use Rattle.ra_base.specs.MemoryShelf.{tables_of, failing_of, calls_of, counts_of, no_counts, reads_of, with_table, shelved, is_same};
 
-use crate::{OutOfMemory, Shelf, ShelfError, TableName, Text};
+use crate::limits::MOST_TABLE_BYTES;
+use crate::{OutOfMemory, ReadLog, ReadNote, Shelf, ShelfCounts, ShelfError, TableName, Text};
 use std::alloc::Global;
-
-/// A table of more bytes than this, 64 MiB, is too long.
-const TABLE_LIMIT: usize = 67_108_864;
 
 /// One stored table; of two at one place the newer counts.
 #[derive(Drop)]
@@ -28,9 +28,8 @@ pub struct MemoryShelf {
     entries: Vec<Entry>,
     failing: Vec<u64>,
     calls: u64,
-    misses: u64,
-    overlong: u64,
-    faults: u64,
+    counts: ShelfCounts,
+    log: ReadLog,
 }
 
 impl MemoryShelf {
@@ -39,16 +38,16 @@ impl MemoryShelf {
         ensures tables { (folder : List ℕ) (table : TableName) → tables_of result folder table ≡ None }
         ensures failing { failing_of result ≡ [] }
         ensures calls { calls_of result ≡ 0 }
-        ensures counts { counts_of result ≡ (0, 0, 0) }
+        ensures counts { counts_of result ≡ no_counts }
+        ensures reads { reads_of result ≡ [] }
     {
         MemoryShelf {
             alloc,
             entries: Vec::new(alloc),
             failing: Vec::new(alloc),
             calls: 0,
-            misses: 0,
-            overlong: 0,
-            faults: 0,
+            counts: ShelfCounts::NONE,
+            log: ReadLog::new(),
         }
     }
 
@@ -59,6 +58,7 @@ impl MemoryShelf {
         ensures failing { failing_of self.new ≡ failing_of self.old }
         ensures calls { calls_of self.new ≡ calls_of self.old }
         ensures counts { counts_of self.new ≡ counts_of self.old }
+        ensures reads { reads_of self.new ≡ reads_of self.old }
     {
         let mut entry = Entry {
             folder: Text::new(self.alloc),
@@ -82,6 +82,7 @@ impl MemoryShelf {
         ensures tables { tables_of self.new ≡ tables_of self.old }
         ensures calls { calls_of self.new ≡ calls_of self.old }
         ensures counts { counts_of self.new ≡ counts_of self.old }
+        ensures reads { reads_of self.new ≡ reads_of self.old }
     {
         match self.failing.push(call) {
             Ok(()) => Ok(()),
@@ -93,41 +94,55 @@ impl MemoryShelf {
 impl Shelf for MemoryShelf {
     ghost contents = { λ s. Some (tables_of s) };
 
-    ghost misses = { λ s. s.misses };
+    ghost reads = { reads_of };
 
-    ghost overlong = { λ s. s.overlong };
-
-    ghost faults = { λ s. s.faults };
+    ghost counts = { counts_of };
 
     fn read(&mut self, alloc: Global, folder: &str, table: TableName) -> Result<Text, ShelfError>
         ensures contents { Some (tables_of self.new) ≡ Some (tables_of self.old) }
         ensures told { ReadsAs (tables_of self.old folder.now table) result }
-        ensures misses { Counts (is_missing result) self.old.misses self.new.misses }
-        ensures overlong { Counts (is_too_long result) self.old.overlong self.new.overlong }
-        ensures faults { Counts (is_read_fault result) self.old.faults self.new.faults }
+        ensures reads { reads_of self.new ≡ reads_of self.old ++ reading folder.now table result ∷ [] }
         ensures counts { counts_of self.new ≡ counted (counts_of self.old) result }
         ensures calls { calls_of self.new ≡ one_more (calls_of self.old) }
         ensures failing { failing_of self.new ≡ failing_of self.old }
         ensures fails { IsErrOf result ShelfError.Fault ↔ Contains (failing_of self.old) (calls_of self.new) }
     {
         self.calls = self.calls.saturating_add(1);
-        if self.failing.contains(&self.calls) {
-            self.faults = self.faults.saturating_add(1);
-            return Err(ShelfError::Fault);
-        }
-        let Some(stored) = find(&self.entries, folder, table) else {
-            self.misses = self.misses.saturating_add(1);
-            return Err(ShelfError::Missing);
+        let answer = if self.failing.contains(&self.calls) {
+            Err(ShelfError::Fault)
+        } else {
+            stored(alloc, &self.entries, folder, table)
         };
-        if stored.bytes().len() > TABLE_LIMIT {
-            self.overlong = self.overlong.saturating_add(1);
-            return Err(ShelfError::TooLong);
-        }
-        let mut text = Text::new(alloc);
-        match text.push(stored.bytes()) {
-            Ok(()) => Ok(text),
-            Err(OutOfMemory) => Err(ShelfError::OutOfMemory),
-        }
+        self.counts = self.counts.count(&answer);
+        self.log = self.log.and(&ReadNote {
+            folder,
+            table,
+            answer: &answer,
+        });
+        answer
+    }
+}
+
+// A copy of the newest of the tables at a place.
+fn stored(
+    alloc: Global,
+    entries: &[Entry],
+    folder: &str,
+    table: TableName,
+) -> Result<Text, ShelfError>
+    ensures told { ReadsAs (shelved entries.now folder.now table) result }
+    ensures sound { IsErrOf result ShelfError.Fault → ⊥ }
+{
+    let Some(stored) = find(entries, folder, table) else {
+        return Err(ShelfError::Missing);
+    };
+    if stored.bytes().len() > MOST_TABLE_BYTES {
+        return Err(ShelfError::TooLong);
+    }
+    let mut text = Text::new(alloc);
+    match text.push(stored.bytes()) {
+        Ok(()) => Ok(text),
+        Err(OutOfMemory) => Err(ShelfError::OutOfMemory),
     }
 }
 

@@ -1,8 +1,10 @@
-ghost use Rattle.std.specs.Prelude.{◌≡◌, List, ℕ, Option};
-ghost use Rattle.ra_base.specs.Causes.{Counts};
-ghost use Rattle.ra_base.specs.Outside.{Tables, ReadsTold, is_missing, is_too_long, is_read_fault};
+ghost use Rattle.std.specs.Prelude.{◌≡◌, ◌++◌, [], ◌∷◌, List, Option};
+ghost use Rattle.ra_base.specs.Outside.{Tables, ReadsTold};
+ghost use Rattle.ra_base.specs.Reading.{Reading, reading};
+ghost use Rattle.ra_base.specs.ShelfCounts.{counted};
+ghost use Rattle.ra_base.specs.declared.shelf_counts.ShelfCounts.{ShelfCounts};
 
-use crate::{TableName, Text};
+use crate::{ShelfCounts, TableName, Text};
 use std::alloc::Global;
 use thiserror::Error;
 
@@ -28,20 +30,16 @@ pub trait Shelf {
     /// The tables of all folders, where the shelf tells them.
     ghost contents: { Self → Option Tables };
 
-    /// How often a table was missing.
-    ghost misses: { Self → ℕ };
+    /// What each read so far has answered, the first one first: told or not, a shelf stands by its answers.
+    ghost reads: { Self → List Reading };
 
-    /// How often a table was longer than 64 MiB.
-    ghost overlong: { Self → ℕ };
-
-    /// How often a read failed.
-    ghost faults: { Self → ℕ };
+    /// How often a table was missing, a table was too long, and a read failed.
+    ghost counts: { Self → ShelfCounts };
 
     /// Reads one table of a folder whole. No read changes what the folders hold.
     fn read(&mut self, alloc: Global, folder: &str, table: TableName) -> Result<Text, ShelfError>
         ensures contents { contents self.new ≡ contents self.old }
         ensures told { ReadsTold (contents self.old) folder.now table result }
-        ensures misses { Counts (is_missing result) (misses self.old) (misses self.new) }
-        ensures overlong { Counts (is_too_long result) (overlong self.old) (overlong self.new) }
-        ensures faults { Counts (is_read_fault result) (faults self.old) (faults self.new) };
+        ensures reads { reads self.new ≡ reads self.old ++ reading folder.now table result ∷ [] }
+        ensures counts { counts self.new ≡ counted (counts self.old) result };
 }

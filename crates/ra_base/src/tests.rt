@@ -1,14 +1,17 @@
 use super::*;
 use std::test::Fail;
 
-// A text grows by pieces, and amounts are set one by one.
+// A text grows by pieces, also where room was made for more, and amounts are set one by one.
 #[test]
 fn texts_and_amounts(rt: HostRuntime) -> Result<(), Fail> {
     let mut text = Text::new(rt.alloc());
     text.push(b"LOLE")?;
+    text.reserve(100)?;
     text.push(b" 2.4")?;
     assert_eq!(rt; text.bytes(), b"LOLE 2.4".as_slice());
     assert_eq!(rt; text.fresh().bytes().len(), 0);
+    text.push_three(b"", b" hours", b"\n")?;
+    assert_eq!(rt; text.bytes(), b"LOLE 2.4 hours\n".as_slice());
     let mut amounts = Amounts::zeros(rt.alloc(), 3)?;
     assert_eq!(rt; amounts.len(), 3);
     assert!(rt; !amounts.is_empty());

@@ -1,4 +1,4 @@
-ghost use Rattle.std.specs.Prelude.{◌≡◌, ◌++◌, [], OnOk, OnErr};
+ghost use Rattle.std.specs.Prelude.{◌≡◌, ◌+◌, ◌^◌, ◌<◌, ◌++◌, [], length, OnOk, OnErr};
 
 use crate::OutOfMemory;
 use std::alloc::Global;
@@ -43,6 +43,39 @@ impl Text {
         ensures err { OnErr result (self.new ≡ self.old) }
     {
         match self.bytes.extend_from_slice(piece) {
+            Ok(()) => Ok(()),
+            Err(_) => Err(OutOfMemory),
+        }
+    }
+
+    /// Appends three pieces, or without memory none of them.
+    pub fn push_three(
+        &mut self,
+        first: &[u8],
+        second: &[u8],
+        third: &[u8],
+    ) -> Result<(), OutOfMemory>
+        requires { length first.now + length second.now + length third.now < 2 ^ 32 }
+        ensures ok { OnOk result (self.new ≡ self.old ++ first.now ++ second.now ++ third.now) }
+        ensures err { OnErr result (self.new ≡ self.old) }
+    {
+        match self.bytes.reserve(first.len() + second.len() + third.len()) {
+            Ok(()) => {
+                self.bytes.extend_from_slice(first).unwrap();
+                self.bytes.extend_from_slice(second).unwrap();
+                self.bytes.extend_from_slice(third).unwrap();
+                Ok(())
+            }
+            Err(_) => Err(OutOfMemory),
+        }
+    }
+
+    /// Makes room for so many bytes more, after which pieces of that length together take no memory. The text
+    /// stays as it was, also where memory wasn't found.
+    pub fn reserve(&mut self, more: usize) -> Result<(), OutOfMemory>
+        ensures { self.new ≡ self.old }
+    {
+        match self.bytes.reserve(more) {
             Ok(()) => Ok(()),
             Err(_) => Err(OutOfMemory),
         }

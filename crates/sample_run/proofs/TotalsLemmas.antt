@@ -56,14 +56,13 @@ nothing-at zero z = refl
 nothing-at (suc n) zero = refl
 nothing-at (suc n) (suc z) = nothing-at n z
 
-pub IsSheet-none : (zones : ℕ) → 0 < zones → zones ≤ 32 → IsSheet (sheet 0 no_sums no_sums no_sums no_sums (replicate zones no_sums) [])
-IsSheet-none zones some few = record {
+pub IsSheet-none : (zones : ℕ) → zones < 2 ^ 8 → IsSheet (sheet 0 no_sums no_sums no_sums no_sums (replicate zones no_sums) [])
+IsSheet-none zones few = record {
   samples = omega arith;
   hours = AreSums-none;
   days = AreSums-none;
   events = AreSums-none;
   unserved = AreSums-none;
-  some_zone = rw (length-replicate {A = Sums} zones no_sums) some;
   few_zones = rw (length-replicate {A = Sums} zones no_sums) few;
   zones = λ z. rw (nothing-at zones z) AreSums-none;
   rows = tt;
@@ -143,7 +142,6 @@ IsSheet-more t hours days events unserved values cuts zs rows is few h d e u vs 
       days = AreSums-more t.days t.samples days is.days (omega arith);
       events = AreSums-more t.events t.samples events is.events (omega arith);
       unserved = AreSums-more t.unserved t.samples unserved is.unserved (omega arith);
-      some_zone = omega (arith, is.some_zone, more_zones.len);
       few_zones = omega (arith, is.few_zones, more_zones.len);
       zones = zone_is;
       rows = rw more_zones.len (added.ascending 1 (2 ^ length t.zones) is.rows in_order);

@@ -62,8 +62,7 @@ pub record IsSheet (sheet : Sheet) : Type 0 where
   pub days : AreSums sheet.days sheet.samples
   pub events : AreSums sheet.events sheet.samples
   pub unserved : AreSums sheet.unserved sheet.samples
-  pub some_zone : 0 < length sheet.zones
-  pub few_zones : length sheet.zones ≤ 32
+  pub few_zones : length sheet.zones < 2 ^ 8
   pub zones : (z : ℕ) → AreSums (slice_index_or sheet.zones z no_sums) sheet.samples
   pub rows : AreRows 1 (2 ^ length sheet.zones) sheet.cuts
   pub row_hours : (m : ℕ) → hours_at sheet.cuts m ≤ sheet.samples * 8784

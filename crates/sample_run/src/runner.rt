@@ -64,7 +64,6 @@ impl<'a> Runner<'a> {
 
     /// Runs a sample, and answers what it came to. It takes no memory.
     pub fn run(&mut self, sample: u32) -> &SampleResult
-        requires { sample < 1000000 }
         ensures* keeps { sem 𝓛 (Keeps self.entry) }
         ensures figures { result.now.figures ≡ figures_of 1 (run_of self.old.system self.old.seed sample) }
         ensures zones { length result.now.figures.zones ≡ 1 }

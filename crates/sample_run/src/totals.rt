@@ -70,7 +70,7 @@ const NOTHING: Sums = Sums {
 
 /// Adds what a result has in each zone to the zone's sums.
 fn add_zones(zones: &mut [Sums], sample: &SampleResult)
-    requires few { length zones.old ≤ 32 }
+    requires few { length zones.old < 2 ^ 8 }
     requires agree { length zones.old ≡ length sample.now.figures.zones }
     requires fits { (z : ℕ) → FitsMore (slice_index_or zones.old z no_sums) }
     ensures gained { (z : ℕ) → z < length zones.old
@@ -85,8 +85,6 @@ fn add_zones(zones: &mut [Sums], sample: &SampleResult)
 impl Totals {
     /// The totals of no sample, for so many zones.
     pub fn new(alloc: Global, zones: u8) -> Result<Totals, OutOfMemory>
-        requires some { 0 < zones }
-        requires few { zones ≤ 32 }
         ensures empty { IfOk result (λ t. t ≡ totals_of zones []) }
         ensures zones { IfOk result (λ t. length t.zones ≡ zones) }
     {

@@ -4,7 +4,7 @@ use Rattle.std.specs.List.{range_with_len}
 use Rattle.std.proofs.lemmas.List.{drop_at, take-append-le, drop-append-le, length-drop, get_or-take, get_or-drop, take_all, same_lists}
 use Rattle.std.proofs.lemmas.List.FromFn.{length-map-range_with_len, get_or-map-range_with_len, map-range_with_len_more}
 use Rattle.system_model.specs.System.{HourAmounts, amounts_of, no_hour}
-use Rattle.system_model.specs.Hourly.{row_of, hours_of}
+use Rattle.system_model.specs.Parts.{row_of, hours_of}
 
 pub hours_of-none : (zones : ℕ) (load variable : List ℕ) → hours_of zones 0 load variable ≡ []
 unfolding hours_of

@@ -1,3 +1,4 @@
 pub mod Rates
+pub mod Components
 pub mod System
-pub mod Hourly
+pub mod Parts

@@ -1,27 +1,23 @@
-use Rattle.std.proofs.Common.{◌%◌, [], ◌∷◌, refl}
-use Rattle.std.proofs.lemmas.Result.{err_from_is_err_and, on_ok_weaker, on_err_weaker}
-use Rattle.decimal_text.specs.DecimalText.{padded_text, fixed_text}
-use Rattle.decimal_text.proofs.Appends.{part_none, part_at, both_pieces, fixed_is}
+use Rattle.std.proofs.Common.{◌≡◌, ℕ, ◌-◌, ◌/◌, ◌%◌, ◌^◌, ◌<◌, ◌++◌, ◌∷◌, length, take, arith, ap, ◌∙◌, sym, List}
+use Rattle.std.specs.Prelude.{decimal, replicate}
+use Rattle.std.proofs.lemmas.Result.{on_ok_weaker}
+use Rattle.std.proofs.lemmas.Fmt.{length-decimal-le}
+use Rattle.decimal_text.specs.DecimalText.{whole_text, padded_text, fixed_text}
+use Rattle.decimal_text.proofs.Appends.{padded_is, fixed_is, pieces_are}
 use Rattle.decimal_text.proofs.writing.put_fixed.Goals as goal
 
-pub returns-in_err-push-clause-err : goal.returns-in_err-push-clause-err
-returns-in_err-push-clause-err c =
-    let p = err_from_is_err_and c.from_residual-in_err-push.result c.from_residual-in_err-push.ensures.1 in
-    let whole = fixed_is c.args.value c.args.places c.power_of_ten.result c.from-unit.result c.from-unit.ensures c.power_of_ten.ensures.value in
-    rw p.1 (part_at c.args.out.now c.put_whole.new.out c.push.new.self _ _ (fixed_text c.args.value c.args.places) c.in_ok-put_whole.ensures.ok whole (part_none c.put_whole.new.out c.push.new.self _ c.in_err-push.ensures.err))
+pub overflow_sub-zeros : goal.overflow_sub-zeros
+overflow_sub-zeros c =
+    let rest : c.args.value % c.from-unit.result < 10 ^ c.args.places = omega (arith, c.from-unit.ensures, c.power_of_ten.ensures.value, c.power_of_ten.ensures.some) in
+    let short = length-decimal-le c.args.places (c.args.value % c.from-unit.result) (omega arith) rest (omega arith) in
+    let same : length c.as_bytes-digits.result.now ≡ length (decimal (c.args.value % c.from-unit.result)) = ap (λ (t : List ℕ). length t) (c.as_bytes-digits.ensures.value ∙ c.format.ensures.text) in
+    omega arith
 
 pub returns-clause-ok : goal.returns-clause-ok
 returns-clause-ok c =
+    let digits : c.as_bytes-digits.result.now ≡ decimal (c.args.value % c.from-unit.result) = c.as_bytes-digits.ensures.value ∙ c.format.ensures.text in
+    let padded = padded_is (c.args.value % c.from-unit.result) c.args.places c.from.result c.as_bytes-digits.result.now digits c.from.ensures c.requires.few in
     let whole = fixed_is c.args.value c.args.places c.power_of_ten.result c.from-unit.result c.from-unit.ensures c.power_of_ten.ensures.value in
-    let digits = padded_text (c.args.value % c.from-unit.result) c.args.places in
-    on_ok_weaker c.put_padded.result (λ e.
-    both_pieces c.args.out.now c.put_whole.new.out c.put_padded.new.out _ _ (fixed_text c.args.value c.args.places) c.in_ok-put_whole.ensures.ok whole
-    (both_pieces c.put_whole.new.out c.push.new.self c.put_padded.new.out (46 ∷ []) digits (46 ∷ digits) c.in_ok-push.ensures.ok refl e)) c.put_padded.ensures.ok
-
-pub returns-clause-err : goal.returns-clause-err
-returns-clause-err c =
-    let whole = fixed_is c.args.value c.args.places c.power_of_ten.result c.from-unit.result c.from-unit.ensures c.power_of_ten.ensures.value in
-    let digits = padded_text (c.args.value % c.from-unit.result) c.args.places in
-    on_err_weaker c.put_padded.result (λ e.
-    part_at c.args.out.now c.put_whole.new.out c.put_padded.new.out _ _ (fixed_text c.args.value c.args.places) c.in_ok-put_whole.ensures.ok whole
-    (part_at c.put_whole.new.out c.push.new.self c.put_padded.new.out (46 ∷ []) digits (46 ∷ digits) c.in_ok-push.ensures.ok refl e)) c.put_padded.ensures.err
+    let first : c.as_bytes.result.now ≡ whole_text (c.args.value / c.from-unit.result) = c.as_bytes.ensures.value ∙ c.format-2.ensures.text in
+    let text : fixed_text c.args.value c.args.places ≡ c.as_bytes.result.now ++ 46 ∷ (take (c.from.result - length c.as_bytes-digits.result.now) (replicate {A = ℕ} 12 48) ++ c.as_bytes-digits.result.now) = rw first (whole ∙ ap (λ (t : List ℕ). whole_text (c.args.value / c.from-unit.result) ++ 46 ∷ t) padded) in
+    on_ok_weaker c.push_three.result (λ e. e ∙ pieces_are c.args.out.now c.as_bytes.result.now c.as_bytes-digits.result.now (fixed_text c.args.value c.args.places) (c.from.result - length c.as_bytes-digits.result.now) text) c.push_three.ensures.ok

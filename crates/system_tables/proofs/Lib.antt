@@ -1,0 +1,7 @@
+pub mod RecordLaws
+pub mod TextLaws
+pub mod RowLaws
+pub mod NameLaws
+pub mod ColumnLaws
+pub mod TurnLaws
+pub mod SoFarLaws

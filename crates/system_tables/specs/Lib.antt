@@ -1,0 +1,10 @@
+pub mod Records
+pub mod Reader
+pub mod Faults
+pub mod Outcome
+pub mod Names
+pub mod Columns
+pub mod Fields
+pub mod Headers
+pub mod SoFar
+pub mod Zones
