@@ -1,10 +1,10 @@
 -- What a call does to the counts of its refusals, and to the bytes that a sink holds.
-use Rattle.std.specs.Prelude.{◌≡◌, ◌≤◌, ◌+◌, ◌-◌, ◌^◌, ◌++◌, ℕ, List, Bool, true, false, Option, min}
+use Rattle.std.specs.Prelude.{◌≡◌, ◌≤◌, ◌+◌, ◌-◌, ◌^◌, ◌++◌, ℕ, List, Bool, true, false, Option, min, max}
 use Rattle.std.specs.Option.{option_map}
 
 -- a count after one more, which stands still at the end of its type
 abbrev pub one_more : ℕ → ℕ
-one_more count = min (count + 1) (2 ^ 64 - 1)
+one_more count = max count (min (count + 1) (2 ^ 64 - 1))
 
 -- a count went up during a call; one that stands at the end of its type when the call returns is taken as risen
 abbrev pub Rose : ℕ → ℕ → Type 0
