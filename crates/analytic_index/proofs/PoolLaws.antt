@@ -31,12 +31,12 @@ pub pooled_within : (s : SystemParts) (extra : Option NewUnit) → IsValid s →
     → total_capacity (pooled_units s extra) ≤ MOST_TABLE_MW
 pooled_within s extra valid is =
     rw (sum_by-append (λ u. u.capacity) (map pooled_unit s.units) (extra_units extra), total_of_pooled s.units)
-    (omega (arith, extra_within extra is, valid.within.pooled))
+    (omega (arith, extra_within extra is, valid.within.units.pooled))
 
 pub pooled_rated : (s : SystemParts) (extra : Option NewUnit) → IsValid s → IsExtra extra
     → AreRated (pooled_units s extra)
 pooled_rated s extra valid is =
     All-append (λ unit. AreRates unit.rates) (map pooled_unit s.units) (extra_units extra)
     (All-map (λ unit. AreRates unit.rates) pooled_unit s.units
-    (All-weaker (IsUnitAmong (length s.zone_names)) (λ unit. AreRates unit.rates) (λ unit among. among.rates) s.units valid.within.each_unit))
+    (All-weaker (IsUnitAmong (length s.zone_names)) (λ unit. AreRates unit.rates) (λ unit among. among.rates) s.units valid.within.units.each))
     (extra_rated extra is)

@@ -12,7 +12,7 @@ use Rattle.load_model.specs.Need.{IsNetHour, AreNetHours, need_of, net_hour_of, 
 pub hour_among : (s : SystemParts) (hour : ℕ) → IsValid s → hour < length s.hours
     → IsHourAmong (length s.zone_names) (hour_at s hour)
 hour_among s hour valid below =
-    All-get_or (IsHourAmong (length s.zone_names)) s.hours hour no_hour below valid.within.each_hour
+    All-get_or (IsHourAmong (length s.zone_names)) s.hours hour no_hour below valid.within.hours.each
 
 -- an hour's need is within the limit
 pub need-le : (hours : List NetHour) (i : ℕ) (d : NetHour) → AreNetHours hours → i < length hours
@@ -39,7 +39,7 @@ pub all_net_hours : (s : SystemParts) (n : ℕ) (hours : List NetHour) → IsVal
 all_net_hours s n hours valid whole e =
     rw (e, take_all n s.hours whole) (record {
       some = rw (length-map s.hours net_hour_of) valid.hour;
-      few = rw (length-map s.hours net_hour_of) valid.within.hours;
+      few = rw (length-map s.hours net_hour_of) valid.within.hours.most;
       each = All-map IsNetHour net_hour_of s.hours
           (All-from_get_or (λ hour. IsNetHour (net_hour_of hour)) s.hours no_hour (λ i h. net_hour_among s i valid h));
     })
