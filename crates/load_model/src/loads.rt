@@ -4,7 +4,7 @@ ghost use Rattle.load_model.specs.Need.{IsNetHour, AreNetHours, no_net_hour, net
 
 use crate::hours::{NetHour, Peak};
 use ra_base::OutOfMemory;
-use ra_base::limits::MOST_HOURS;
+use ra_base::limits::MOST_POOLED_MW;
 use std::alloc::Global;
 use std::marker::Model;
 use system_model::System;
@@ -61,7 +61,8 @@ impl NetLoad {
     /// that is below 0.
     pub fn need(&self, hour: u32) -> u32
         requires { hour < length self.now }
-        ensures { result ≡ need_of (slice_index_or self.now hour no_net_hour) }
+        ensures value { result ≡ need_of (slice_index_or self.now hour no_net_hour) }
+        ensures range { result ≤ MOST_POOLED_MW }
     {
         self.hours[hour as usize].need()
     }

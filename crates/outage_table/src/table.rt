@@ -12,6 +12,7 @@ use crate::limits::{LARGEST_TOTAL, ONE};
 use crate::units::PooledUnit;
 use fixed_interval::{Enclosure, add};
 use ra_base::OutOfMemory;
+use ra_base::limits::MOST_TABLE_MW;
 use std::alloc::Global;
 use std::marker::Model;
 use system_model::Rates;
@@ -50,6 +51,23 @@ impl OutageTable {
             units: Vec::new(alloc),
             entries,
         })
+    }
+
+    /// The table of these units, as if they were added one after the other. It answers that memory
+    /// isn't found also where there are 4,294,967,296 of them.
+    pub fn of_units(alloc: Global, units: &[PooledUnit]) -> Result<OutageTable, OutOfMemory>
+        requires rated { All (λ unit. AreRates unit.rates) units.now }
+        requires small { total_capacity units.now ≤ MOST_TABLE_MW }
+        ensures { IfOk result (λ table. table ≡ units.now) }
+    {
+        let mut table = OutageTable::empty(alloc)?;
+        for unit in units {
+            match table.add_unit(unit.capacity, unit.rates) {
+                Ok(()) => {}
+                Err(_) => return Err(OutOfMemory),
+            }
+        }
+        Ok(table)
     }
 
     /// Adds a unit of so many MW after the others. A refusal leaves the table as it was.

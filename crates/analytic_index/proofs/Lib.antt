@@ -1,0 +1,5 @@
+pub mod SumLaws
+pub mod PoolLaws
+pub mod NeedLaws
+pub mod UnservedPast
+pub mod IndexLaws

@@ -1,0 +1,99 @@
+ghost use Rattle.std.specs.Prelude.{◌≡◌, IfOk};
+ghost use Rattle.system_model.specs.System.{zone_count};
+
+use crate::{put_index, put_table};
+use analytic_index::Analysis;
+use ra_base::{Amounts, OutOfMemory, Text};
+use std::alloc::Global;
+use std::process::Abort;
+use system_model::{Draft, Rates, System, Unit};
+
+// A system with one zone: units as capacity, failure and repair rate, hours as load and variable
+// generation.
+fn one_zone(
+    rt: &impl Abort,
+    alloc: Global,
+    units: &[(u32, u32, u32)],
+    hours: &[(u32, u32)],
+) -> Result<System, OutOfMemory> {
+    assert!(rt; units.len() <= 8);
+    assert!(rt; !hours.is_empty() && hours.len() <= 8);
+    let mut draft = Draft::new(alloc);
+    draft.push_zone(b"A")?;
+    'units: for (capacity, f, r) in units {
+        let (capacity, f, r) = (*capacity, *f, *r);
+        assert!(rt; capacity <= 25_000 && f <= 1_000_000_000 && r <= 1_000_000_000);
+        assert!(rt; f > 0 || r > 0);
+        let unit = Unit {
+            zone: 0,
+            capacity,
+            rates: Rates { f, r },
+        };
+        draft.push_unit(b"U", unit)?;
+    }
+    let mut load = Amounts::zeros(alloc, 1)?;
+    let mut variable = Amounts::zeros(alloc, 1)?;
+    'hours: for (mw, given) in hours {
+        let (mw, given) = (*mw, *given);
+        assert!(rt; mw <= 200_000 && given <= 200_000);
+        load.set(0, mw);
+        variable.set(0, given);
+        draft.push_hour(&load, &variable)?;
+    }
+    Ok(draft.finish())
+}
+
+// Both texts, the table's first.
+fn texts(
+    rt: &impl Abort,
+    alloc: Global,
+    units: &[(u32, u32, u32)],
+    hours: &[(u32, u32)],
+) -> Result<Text, OutOfMemory> {
+    let system = one_zone(rt, alloc, units, hours)?;
+    let analysis = Analysis::new(alloc, &system, None)?;
+    let mut text = Text::new(alloc);
+    put_table(&mut text, analysis.table())?;
+    put_index(&mut text, &analysis)?;
+    Ok(text)
+}
+
+const THREE_UNITS: &str = "\
+units 3 total 11
+outage 0 low 1.000000000000 high 1.000000000000
+outage 3 low 0.058807999999 high 0.058808000001
+outage 5 low 0.020391999999 high 0.020392000001
+outage 6 low 0.001183999999 high 0.001184000001
+outage 8 low 0.000791999999 high 0.000792000001
+outage 11 low 0.000007999999 high 0.000008000001
+hours 1 peak 8 hour 0
+lole low 0.020391999999 high 0.020392000001
+eue low 0.043575999999 high 0.043576000001
+hour 0 need 8 lolp low 0.020391999999 high 0.020392000001 unserved low 0.043575999999 high 0.043576000001
+";
+
+const NO_UNITS: &str = "\
+units 0 total 0
+outage 0 low 1.000000000000 high 1.000000000000
+hours 2 peak 5 hour 1
+lole low 1.000000000000 high 1.000000000000
+eue low 5.000000000000 high 5.000000000000
+hour 0 need 0 lolp low 0.000000000000 high 0.000000000000 unserved low 0.000000000000 high 0.000000000000
+hour 1 need 5 lolp low 1.000000000000 high 1.000000000000 unserved low 5.000000000000 high 5.000000000000
+";
+
+// Three units that are each out a fiftieth of the time; and no units, where what is needed is lacking.
+#[test]
+fn texts_are_written_line_by_line(rt: HostRuntime) {
+    let (f, r) = (20_000_000, 980_000_000);
+    let cases: [(&[(u32, u32, u32)], &[(u32, u32)], &str); 2] = [
+        (&[(3, f, r), (3, f, r), (5, f, r)], &[(8, 0)], THREE_UNITS),
+        (&[], &[(3, 4), (7, 2)], NO_UNITS),
+    ];
+    for (units, hours, want) in cases {
+        match texts(&rt, rt.alloc(), units, hours) {
+            Ok(text) => assert!(rt; text.bytes() == want.as_bytes(), "{want}"),
+            Err(OutOfMemory) => panic!(rt; "out of memory"),
+        }
+    }
+}
