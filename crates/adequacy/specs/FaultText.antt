@@ -5,11 +5,11 @@ use Rattle.decimal_text.specs.declared.fault.NumberFault.{NumberFault}
 use Rattle.decimal_text.specs.declared.fault.NumberFault.TheVariants.{Empty as EmptyNumber, NotANumber, NotWhole, TooLarge}
 use Rattle.ra_base.specs.declared.table.TableName.{TableName}
 use Rattle.ra_base.specs.declared.table.TableName.TheVariants.{Zones, Units, Interfaces, Lines, Storages, Load, Variable}
-use Rattle.system_tables.specs.declared.TableFault.{TableFault}
-use Rattle.system_tables.specs.declared.Column.{Column}
-use Rattle.system_tables.specs.declared.Column.TheVariants.{Fixed, Zone, Whole}
-use Rattle.system_tables.specs.declared.Cause.{Cause}
-use Rattle.system_tables.specs.declared.Cause.TheVariants.{NoHeader, ColumnMissing, ColumnTwice, FieldCount, Number, OutOfRange, NameTwice, NameUnknown, HourOrder, TooMany, Empty, BothRatesZero, SameZone}
+use Rattle.system_tables.specs.declared.faults.TableFault.{TableFault}
+use Rattle.system_tables.specs.declared.faults.Column.{Column}
+use Rattle.system_tables.specs.declared.faults.Column.TheVariants.{Fixed, Zone, Whole}
+use Rattle.system_tables.specs.declared.faults.Cause.{Cause}
+use Rattle.system_tables.specs.declared.faults.Cause.TheVariants.{NoHeader, ColumnMissing, ColumnTwice, FieldCount, Number, OutOfRange, NameTwice, NameUnknown, HourOrder, TooMany, Empty, BothRatesZero, SameZone}
 
 -- a table's name
 abbrev pub table_text : TableName → List ℕ

@@ -11,8 +11,8 @@ use Rattle.ra_base.specs.declared.table.TableName.{TableName}
 use Rattle.ra_base.specs.declared.table.TableName.TheVariants.{Zones, Units, Interfaces, Lines, Storages, Load, Variable}
 use Rattle.ra_base.specs.declared.table.TableBytes.{TableBytes}
 use Rattle.system_model.specs.System.{SystemParts}
-use Rattle.system_tables.specs.Outcome.{system_of}
-use Rattle.system_tables.specs.declared.TableFault.{TableFault}
+use Rattle.system_tables.specs.Tables.{system_of}
+use Rattle.system_tables.specs.declared.faults.TableFault.{TableFault}
 use Rattle.adequacy.specs.declared.tables.Refusal.{Refusal}
 use Rattle.adequacy.specs.declared.tables.Refusal.TheVariants.{Missing, TooLong, Fault}
 use Rattle.adequacy.specs.declared.tables.FolderError.{FolderError}
