@@ -1,6 +1,6 @@
 use Rattle.std.proofs.Common.{◌-◌, ◌≡◌, ◌≤◌}
 use Rattle.transfer_flow.specs.Flow.{IsWithinLimits, Moves}
-use Rattle.transfer_flow.proofs.flows.Flow.pull.Given as goal
+use Rattle.transfer_flow.proofs.flows.Flow.pull_or_search.Given as goal
 
 abbrev pub invariant-loop-moved : goal.invariant-loop-moved
 invariant-loop-moved l =

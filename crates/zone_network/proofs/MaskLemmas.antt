@@ -7,7 +7,7 @@ use Rattle.std.proofs.lemmas.Bool.{eq-eqb, cases_lt, false≢true}
 use Rattle.std.proofs.Math.Pow.{pow-lt}
 use mir.Syntax.{w32}
 use Rattle.zone_network.specs.Sums.{inside}
-use Rattle.transfer_flow.specs.Masks.{AddsNumber}
+use Rattle.zone_network.specs.Masks.{AddsNumber}
 
 pub inside_zero : (i : ℕ) → inside 0 i ≡ false
 inside_zero i = ap (λ (b : ℕ). b == 1) (bit_at-zero i)
