@@ -1,3 +1,4 @@
+-- what feasibility asks of each zone, device and link
 use Rattle.std.specs.Prelude.{◌≡◌, ℕ, ℤ, ◌+◌, ◌≤◌, ◌==◌, List}
 use Rattle.zone_network.specs.Network.{NetworkParts, forward_of, backward_of, inflow, outflow, over_devices, supply_at, load_at, forward_at, backward_at, discharge_cap_at, charge_cap_at}
 use Rattle.sample_totals.specs.declared.outcomes.HourOutcome.{HourOutcome}

@@ -1,7 +1,7 @@
 use Rattle.std.proofs.Common.{◌≡◌, ◌≢◌, ℕ, ◌+◌, ◌-◌, ◌<◌, ◌≤◌, ◌⊎◌, inl, inr, Bool, true, false, length, List, get_or, refl, ap, sym, ◌∙◌, arith, subst}
 use Rattle.std.specs.Prelude.{slice_set, min, IsTrue, Contains}
-use Rattle.std.proofs.lemmas.List.{set-get_or, get_or_default}
-use Rattle.std.proofs.lemmas.Bool.{cases_eq, false≢true}
+use Rattle.std.proofs.lemmas.List.{set-get_or, get_or_default, get_or-set_same}
+use Rattle.std.proofs.lemmas.Bool.{cases_eq, cases_lt, false≢true}
 use Rattle.zone_network.specs.Sums.{inside}
 use Rattle.zone_network.specs.Network.{ShapeParts, NetworkParts, IsShape, link_count, from_zone, to_zone, links_of}
 use Rattle.zone_network.proofs.LinkLists.{links_of-start, links_of-end}
@@ -270,6 +270,40 @@ entered-full n f towards link forward seen valid among full =
           let P : Bool → Type 0 = λ b. 0 < room n f link (way towards b) in
           let some : 0 < room n f link (way towards forward) = subst P (one_way n.shape link forward other valid among end) room' in
           absurd (omega arith);
+    }
+
+-- how far a pull has come: the goal's own spare was taken, and searches brought more
+pub record PullsSoFar (n : NetworkParts) (old new : FlowParts) (goal asked moved : ℕ) : Type 0 where
+  pub shape : new.shape ≡ n.shape
+  pub limits : IsWithinLimits n new
+  pub moves : Moves n.shape old new goal moved
+  pub most : moved ≤ asked
+  pub own : spare_at new goal ≡ 0 ⊎ (spare_at new goal + asked ≤ spare_at old goal)
+
+pub pulls-own : (n : NetworkParts) (old new : FlowParts) (goal asked given : ℕ)
+    → old.shape ≡ n.shape
+    → IsWithinLimits n old
+    → goal < length old.spares
+    → given ≡ min (spare_at old goal) asked
+    → new ≡ record old { spares = slice_set old.spares goal (spare_at old goal - given) }
+    → PullsSoFar n old new goal asked given
+pulls-own n old new goal asked given shape limits among is after =
+    let within : IsWithinLimits n new =
+    let P : FlowParts → Type 0 = λ f. IsWithinLimits n f in
+    subst P (sym after) record { ways = limits.ways } in
+    let left : spare_at new goal ≡ spare_at old goal - given =
+    ap (λ (f : FlowParts). spare_at f goal) after
+    ∙ get_or-set_same old.spares goal (spare_at old goal - given) 0 among in
+    record {
+      shape = ap (λ (f : FlowParts). f.shape) after ∙ shape;
+      limits = within;
+      moves = moves-spare n.shape old new goal given among (omega arith) after;
+      most = omega arith;
+      own =
+          elim (cases_lt (spare_at old goal) asked) [
+            | inl less ↦ inl (omega arith)
+            | inr enough ↦ inr (omega arith)
+          ];
     }
 
 -- where a search from the goal alone moves nothing, what it saw is used up

@@ -1,4 +1,4 @@
-ghost use Rattle.std.specs.Prelude.{◌≡◌, ℕ, ◌+◌, ◌-◌, ◌<◌, ◌≤◌, ◌^◌, ◌*◌, IsTrue, true};
+ghost use Rattle.std.specs.Prelude.{◌≡◌, ℕ, ◌+◌, ◌-◌, ◌<◌, ◌≤◌, ◌^◌, ◌*◌, ◌⊎◌, IsTrue, true};
 ghost use Rattle.zone_network.specs.Sums.{inside};
 ghost use Rattle.zone_network.specs.Network.{link_count};
 ghost use Rattle.transfer_flow.specs.Flow.{IsWithinLimits, Moves, spare_at};
@@ -35,7 +35,8 @@ impl Flow {
         self.pull_or_search(net, goal, most).moved
     }
 
-    /// The same, with the zones that were searched in vain where it falls short.
+    /// The same, with the zones that were searched in vain where it falls short. The goal's own spare is
+    /// taken first.
     pub fn pull_or_search(&mut self, net: &Network, goal: u8, most: u32) -> Pull
         requires shape { self.old.shape ≡ net.now.shape }
         requires limits { IsWithinLimits net.now self.old }
@@ -44,10 +45,12 @@ impl Flow {
         ensures limits { IsWithinLimits net.now self.new }
         ensures moves { Moves net.now.shape self.old self.new goal result.moved }
         ensures most { result.moved ≤ most }
+        ensures own { spare_at self.new goal ≡ 0 ⊎ (spare_at self.new goal + most ≤ spare_at self.old goal) }
         ensures short { result.moved < most → IsUsedUp net.now self.new goal result.searched }
+        ensures enough { result.moved ≡ most → result.searched ≡ 0 }
     {
         prove!(goal < net.zones());
-        let mut moved = 0;
+        let mut moved = self.take_spare(goal, most);
         while moved < most {
             let mut seen = with_zone(0, goal);
             let more = self.draw(net, goal, most - moved, &mut seen);
