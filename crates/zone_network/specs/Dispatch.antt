@@ -1,5 +1,5 @@
 -- what a network may do in its hour, and the best that it may do
-use Rattle.std.specs.Prelude.{◌≡◌, ℕ, ℤ, ◌+◌, ◌-◌, ◌<◌, ◌≤◌, ◌==◌, ◌⊎◌, List, [], ◌∷◌, ◌++◌, map, reverse, true, nat_le}
+use Rattle.std.specs.Prelude.{◌≡◌, ℕ, ℤ, ◌+◌, ◌-◌, ◌<◌, ◌≤◌, ◌==◌, ◌⊎◌, List, [], ◌∷◌, ◌++◌, map, reverse, true, nat_lt, nat_le}
 use Rattle.std.specs.List.{range_with_len}
 use Rattle.zone_network.specs.Sums.{NumberSet}
 use Rattle.zone_network.specs.Network.{ShapeParts, NetworkParts, forward_of, backward_of, inflow, outflow, over_zones, over_devices, link_count, device_count, supply_at, load_at, forward_at, backward_at, discharge_cap_at, charge_cap_at}
@@ -34,6 +34,10 @@ serving_order s = range_with_len 0 s.zones
 -- the zones that don't stand after a zone in the serving order
 abbrev pub not_after : ShapeParts → ℕ → NumberSet
 not_after s z = λ j. nat_le j z
+
+-- the zones that the first so many places of the serving order hold
+abbrev pub first_served : ShapeParts → ℕ → NumberSet
+first_served s count = λ j. nat_lt j count
 
 -- the load of a zone that isn't served
 abbrev pub unserved_at : NetworkParts → Dispatch → ℕ → ℕ
