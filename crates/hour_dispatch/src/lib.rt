@@ -15,3 +15,6 @@ mod serving;
 mod starting;
 
 pub use dispatcher::Dispatcher;
+
+#[cfg(test)]
+mod tests;
