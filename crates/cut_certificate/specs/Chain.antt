@@ -1,4 +1,5 @@
-use Rattle.std.specs.Prelude.{◌≡◌, ◌≢◌, ℕ, ℤ, pos, ◌+◌, ◌-◌, ◌<◌, ◌≤◌, ◌^◌, ◌&&◌, IsTrue, List, All, length, slice_index, slice_index_or, nat_lt, nat_le, if◌then◌else◌}
+-- the chain of sets that proves an outcome the best
+use Rattle.std.specs.Prelude.{◌≡◌, ◌≢◌, ℕ, ℤ, pos, ◌+◌, ◌-◌, ◌<◌, ◌≤◌, ◌^◌, ◌&&◌, IsTrue, List, All, length, true, slice_index, slice_index_or, nat_lt, nat_le, if◌then◌else◌}
 use Rattle.zone_network.specs.Sums.{inside}
 use Rattle.zone_network.specs.Network.{NetworkParts, into, over_zones, over_devices, zone_of_device, link_count, device_count, load_at, discharge_cap_at, charge_cap_at}
 use Rattle.zone_network.specs.Dispatch.{Dispatch, IsFeasible, IsBest, not_after, unserved_at}
@@ -6,9 +7,8 @@ use Rattle.zone_network.specs.Cut.{supply_of, discharge_caps_of}
 use Rattle.sample_totals.specs.declared.outcomes.HourOutcome.{HourOutcome}
 use Rattle.cut_certificate.specs.declared.chains.Chain.{Chain}
 
--- each list of the outcome and of the chain has the length that the network's shape gives it, and each mask has
--- bits of the network's zones alone
-pub record Fit (n : NetworkParts) (outcome : HourOutcome) (chain : Chain) : Type 0 where
+-- each list of the outcome and of the chain has the length that the network's shape gives it
+pub record AreSized (n : NetworkParts) (outcome : HourOutcome) (chain : Chain) : Type 0 where
   pub unserved : length outcome.unserved ≡ n.shape.zones
   pub discharge : length outcome.discharge ≡ device_count n.shape
   pub charge : length outcome.charge ≡ device_count n.shape
@@ -16,11 +16,19 @@ pub record Fit (n : NetworkParts) (outcome : HourOutcome) (chain : Chain) : Type
   pub flows : length chain.flows ≡ link_count n.shape
   pub generation : length chain.generation ≡ n.shape.zones
   pub sets : length chain.sets ≡ n.shape.zones + device_count n.shape + device_count n.shape
+
+-- so they have, and each mask has bits of the network's zones alone
+pub record Fit (n : NetworkParts) (outcome : HourOutcome) (chain : Chain) : Type 0 where
+  pub sizes : AreSized n outcome chain
   pub masks : All (λ mask. mask < 2 ^ n.shape.zones) chain.sets
 
 -- what the outcome says of a zone and of a device, in MW
 abbrev pub unserved_in : HourOutcome → ℕ → ℕ
 unserved_in outcome = slice_index outcome.unserved
+
+-- the load that isn't served, over all zones
+abbrev pub all_unserved : NetworkParts → HourOutcome → ℕ
+all_unserved n outcome = over_zones n.shape (unserved_in outcome) (λ z. true)
 
 abbrev pub discharge_in : HourOutcome → ℕ → ℕ
 discharge_in outcome = slice_index outcome.discharge

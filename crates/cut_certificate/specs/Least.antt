@@ -1,3 +1,4 @@
+-- the least load that can stay unserved
 use Rattle.std.specs.Prelude.{ℕ, ◌≤◌}
 use Rattle.zone_network.specs.Network.{NetworkParts}
 use Rattle.zone_network.specs.Dispatch.{Dispatch, IsFeasible, total_unserved}

@@ -1,5 +1,6 @@
+-- what feasibility asks of each zone, device and link
 use Rattle.std.specs.Prelude.{◌≡◌, ℕ, ℤ, ◌+◌, ◌≤◌, ◌==◌, List}
-use Rattle.zone_network.specs.Network.{NetworkParts, ahead, back, inflow, outflow, over_devices, supply_at, load_at, forward_at, backward_at, discharge_cap_at, charge_cap_at}
+use Rattle.zone_network.specs.Network.{NetworkParts, forward_of, backward_of, inflow, outflow, over_devices, supply_at, load_at, forward_at, backward_at, discharge_cap_at, charge_cap_at}
 use Rattle.sample_totals.specs.declared.outcomes.HourOutcome.{HourOutcome}
 use Rattle.cut_certificate.specs.declared.chains.Chain.{Chain}
 use Rattle.cut_certificate.specs.Chain.{unserved_in, discharge_in, charge_in, served_in, generation_in, flow_in, flow_at}
@@ -23,5 +24,5 @@ pub record IsFeasibleDevice (n : NetworkParts) (outcome : HourOutcome) (k : ℕ)
 
 -- what it asks of one link
 pub record IsFeasibleLink (n : NetworkParts) (flows : List ℤ) (l : ℕ) : Type 0 where
-  pub forward : ahead (flow_at flows l) ≤ forward_at n l
-  pub backward : back (flow_at flows l) ≤ backward_at n l
+  pub forward : forward_of (flow_at flows l) ≤ forward_at n l
+  pub backward : backward_of (flow_at flows l) ≤ backward_at n l

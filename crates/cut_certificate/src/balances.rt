@@ -1,7 +1,7 @@
 //! The balance of a zone: what comes in or is made there, and what goes out or is used there.
 
 ghost use Rattle.std.specs.Prelude.{◌≡◌, ◌+◌, ◌<◌, ◌≤◌, ◌==◌, ◌↔◌, IsTrue, length, slice_index, if◌then◌else◌};
-ghost use Rattle.zone_network.specs.Network.{IsNetwork, ahead, back, inflow, outflow, link_count, device_count, from_zone, to_zone, over_devices};
+ghost use Rattle.zone_network.specs.Network.{IsNetwork, forward_of, backward_of, inflow, outflow, link_count, device_count, from_zone, to_zone, over_devices};
 ghost use Rattle.cut_certificate.specs.Chain.{Fit, flow_at};
 ghost use Rattle.cut_certificate.specs.Parts.{IsBalanced};
 
@@ -14,17 +14,17 @@ use zone_network::Network;
 
 /// What goes forward by a signed flow, in MW.
 #[inline]
-pub(crate) fn ahead(flow: i32) -> u32
-    ensures value { result ≡ ahead flow }
+pub(crate) fn forward_of(flow: i32) -> u32
+    ensures value { result ≡ forward_of flow }
     ensures most { result ≤ 2147483648 }
 {
     if flow > 0 { flow.unsigned_abs() } else { 0 }
 }
 
-/// What goes back by a signed flow, in MW.
+/// What goes backward by a signed flow, in MW.
 #[inline]
-pub(crate) fn back(flow: i32) -> u32
-    ensures value { result ≡ back flow }
+pub(crate) fn backward_of(flow: i32) -> u32
+    ensures value { result ≡ backward_of flow }
     ensures most { result ≤ 2147483648 }
 {
     if flow < 0 { flow.unsigned_abs() } else { 0 }
@@ -34,15 +34,15 @@ pub(crate) fn back(flow: i32) -> u32
 fn brought(net: &Network, flows: &Flows, link: u32, zone: u8) -> u32
     requires link { link < link_count net.now.shape }
     requires flows { length flows.now ≡ link_count net.now.shape }
-    ensures value { result ≡ (if to_zone net.now.shape link == zone then ahead (flow_at flows.now link) else 0) + (if from_zone net.now.shape link == zone then back (flow_at flows.now link) else 0) }
+    ensures value { result ≡ (if to_zone net.now.shape link == zone then forward_of (flow_at flows.now link) else 0) + (if from_zone net.now.shape link == zone then backward_of (flow_at flows.now link) else 0) }
     ensures most { result ≤ 2147483648 }
 {
     let ends = net.link(link);
     let flow = flows.get(link as usize);
     if ends.to == zone {
-        ahead(flow)
+        forward_of(flow)
     } else if ends.from == zone {
-        back(flow)
+        backward_of(flow)
     } else {
         0
     }
@@ -52,15 +52,15 @@ fn brought(net: &Network, flows: &Flows, link: u32, zone: u8) -> u32
 fn taken(net: &Network, flows: &Flows, link: u32, zone: u8) -> u32
     requires link { link < link_count net.now.shape }
     requires flows { length flows.now ≡ link_count net.now.shape }
-    ensures value { result ≡ (if from_zone net.now.shape link == zone then ahead (flow_at flows.now link) else 0) + (if to_zone net.now.shape link == zone then back (flow_at flows.now link) else 0) }
+    ensures value { result ≡ (if from_zone net.now.shape link == zone then forward_of (flow_at flows.now link) else 0) + (if to_zone net.now.shape link == zone then backward_of (flow_at flows.now link) else 0) }
     ensures most { result ≤ 2147483648 }
 {
     let ends = net.link(link);
     let flow = flows.get(link as usize);
     if ends.from == zone {
-        ahead(flow)
+        forward_of(flow)
     } else if ends.to == zone {
-        back(flow)
+        backward_of(flow)
     } else {
         0
     }

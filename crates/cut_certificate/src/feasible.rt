@@ -5,7 +5,7 @@ ghost use Rattle.zone_network.specs.Network.{IsNetwork, link_count, device_count
 ghost use Rattle.cut_certificate.specs.Chain.{Fit, IsFeasibleBy};
 ghost use Rattle.cut_certificate.specs.Parts.{IsFeasibleZone, IsFeasibleDevice, IsFeasibleLink};
 
-use crate::balances::{ahead, back, is_balanced};
+use crate::balances::{backward_of, forward_of, is_balanced};
 use crate::chains::Chain;
 use crate::flow_lists::Flows;
 use sample_totals::HourOutcome;
@@ -42,7 +42,7 @@ fn is_feasible_link(net: &Network, flows: &Flows, link: u32) -> bool
     ensures { IsTrue result ↔ IsFeasibleLink net.now flows.now link }
 {
     let flow = flows.get(link as usize);
-    ahead(flow) <= net.forward(link) && back(flow) <= net.backward(link)
+    forward_of(flow) <= net.forward(link) && backward_of(flow) <= net.backward(link)
 }
 
 /// Whether each zone is feasible.

@@ -6,9 +6,8 @@ ghost use Rattle.zone_network.specs.Network.{over_zones, over_devices, device_co
 ghost use Rattle.zone_network.specs.Dispatch.{not_after};
 ghost use Rattle.cut_certificate.specs.Chain.{served_but, with_caps_before, up_to};
 
-use crate::sums::has_zone;
 use ra_base::Amounts;
-use zone_network::Network;
+use zone_network::{Network, has_zone};
 
 /// What is served of a zone's load, in MW.
 #[inline]

@@ -9,9 +9,9 @@ use crate::chains::Chain;
 use crate::outcome_sums::{
     amounts_in, caps_before_in, charge_up_to_in, served_in, served_not_after,
 };
-use crate::sums::{discharge_caps_of, has_zone, into, supply_of};
+use crate::sums::{discharge_caps_of, into, supply_of};
 use sample_totals::HourOutcome;
-use zone_network::Network;
+use zone_network::{Network, has_zone};
 
 /// Whether a mask proves a zone's unserved load.
 fn proves_unserved(net: &Network, outcome: &HourOutcome, zone: u8, mask: u32) -> bool

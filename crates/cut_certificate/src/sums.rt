@@ -2,19 +2,10 @@
 
 ghost use Rattle.std.specs.Prelude.{◌≡◌, ◌+◌, ◌<◌, ◌≤◌, if◌then◌else◌};
 ghost use Rattle.zone_network.specs.Sums.{inside};
-ghost use Rattle.zone_network.specs.Network.{IsNetwork, link_count, enters_ahead, enters_back, forward_at, backward_at, into};
+ghost use Rattle.zone_network.specs.Network.{IsNetwork, link_count, enters_forward, enters_backward, forward_at, backward_at, into};
 ghost use Rattle.zone_network.specs.Cut.{load_of, supply_of, discharge_caps_of};
 
-use zone_network::Network;
-
-/// Whether a mask has the bit of a zone.
-#[inline]
-pub(crate) fn has_zone(mask: u32, zone: u8) -> bool
-    requires { zone < 32 }
-    ensures { result ≡ inside mask zone }
-{
-    (mask >> zone) & 1 == 1
-}
+use zone_network::{Network, has_zone};
 
 /// The load of a mask's zones, in MW.
 #[tactic(auto, using(crate::proofs::SumSteps::sum_steps))]
@@ -78,7 +69,7 @@ pub(crate) fn into(net: &Network, mask: u32) -> u64
 /// The limit of a link towards a mask's zones where it comes from outside them, and else 0.
 fn limit_into(net: &Network, mask: u32, link: u32) -> u32
     requires { link < link_count net.now.shape }
-    ensures value { result ≡ (if enters_ahead net.now.shape (inside mask) link then forward_at net.now link else 0) + (if enters_back net.now.shape (inside mask) link then backward_at net.now link else 0) }
+    ensures value { result ≡ (if enters_forward net.now.shape (inside mask) link then forward_at net.now link else 0) + (if enters_backward net.now.shape (inside mask) link then backward_at net.now link else 0) }
     ensures most { result ≤ 1000000 }
 {
     let ends = net.link(link);

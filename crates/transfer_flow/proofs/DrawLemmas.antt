@@ -1,59 +1,38 @@
-use Rattle.std.proofs.Common.{◌≡◌, ◌≢◌, ℕ, ◌+◌, ◌-◌, ◌<◌, ◌≤◌, ◌⊎◌, inl, inr, false, length, List, get_or, refl, ap, sym, ◌∙◌, arith, subst}
+use Rattle.std.proofs.Common.{◌≡◌, ◌≢◌, ℕ, ◌+◌, ◌-◌, ◌<◌, ◌≤◌, ◌⊎◌, inl, inr, Bool, true, false, length, List, get_or, refl, ap, sym, ◌∙◌, arith, subst}
 use Rattle.std.specs.Prelude.{slice_set, min, IsTrue, Contains}
-use Rattle.std.proofs.lemmas.List.{set-get_or, get_or_default}
-use Rattle.std.proofs.lemmas.Bool.{cases_eq, false≢true}
+use Rattle.std.proofs.lemmas.List.{set-get_or, get_or_default, get_or-set_same}
+use Rattle.std.proofs.lemmas.Bool.{cases_eq, cases_lt, false≢true}
 use Rattle.zone_network.specs.Sums.{inside}
-use Rattle.zone_network.specs.Network.{NetworkParts, IsShape, IsLinkAmong, link_count, from_zone, to_zone, link_at, links_of}
+use Rattle.zone_network.specs.Network.{ShapeParts, NetworkParts, IsShape, link_count, from_zone, to_zone, links_of}
 use Rattle.zone_network.proofs.LinkLists.{links_of-start, links_of-end}
-use Rattle.zone_network.proofs.FlowLemmas.{link_among}
-use Rattle.transfer_flow.specs.Masks.{AddsNumber}
+use Rattle.zone_network.specs.Masks.{AddsNumber}
 use Rattle.transfer_flow.specs.Flow.{FlowParts, flow_at, spare_at, IsWithinLimits, Moves}
-use Rattle.transfer_flow.specs.Reach.{room_ahead, room_back, IsClosedBefore, Reaches}
-use Rattle.transfer_flow.specs.Draw.{IsEntered, IsDry, CanDraw, Draws, Raises, Lowers}
-use Rattle.transfer_flow.proofs.MaskLemmas.{inside_zero}
-use Rattle.transfer_flow.proofs.MoveLemmas.{moves-none, moves-then, moves-raised, moves-lowered, moves-spare, raises-within, lowers-within}
+use Rattle.transfer_flow.specs.Reach.{room, way, start_of, end_of, IsUsedUp}
+use Rattle.transfer_flow.specs.Draw.{IsEntered, IsDry, CanDraw, Draws, Carries}
+use Rattle.zone_network.proofs.MaskLemmas.{inside_zero}
+use Rattle.transfer_flow.proofs.MoveLemmas.{moves-none, moves-then, moves-along, moves-spare, carries-within}
+use Rattle.transfer_flow.proofs.WayLemmas.{one_way, both_ends, start_there}
 
 -- how far the search of a zone has come: it took the zone's own spare, and went along the first so many of the links listed
 pub record DrawsSoFar (n : NetworkParts) (old new : FlowParts) (zone before after asked drawn : ℕ) (listed : List ℕ) (upto : ℕ) : Type 0 where
   pub draws : Draws n old new zone before after asked drawn
   pub spare : drawn ≡ 0 → spare_at old zone ≡ 0
-  pub entered : drawn ≡ 0 → (k : ℕ) → k < upto → IsEntered n old after zone (get_or listed k 0)
+  pub entered : drawn ≡ 0 → (k : ℕ) → k < upto → IsEntered n old true after zone (get_or listed k 0)
 
 -- a zone that was entered from zones that were seen stays so as more are seen
-entered-grown : (n : NetworkParts) (f : FlowParts) (before after z l : ℕ)
+pub entered-grown : (n : NetworkParts) (f : FlowParts) (towards : Bool) (before after z l : ℕ)
     → ((w : ℕ) → IsTrue (inside before w) → IsTrue (inside after w))
-    → IsEntered n f before z l
-    → IsEntered n f after z l
-entered-grown n f before after z l grown h =
-    record {
-      forward = λ end room. grown (from_zone n.shape l) (h.forward end room);
-      backward = λ start room. grown (to_zone n.shape l) (h.backward start room);
-    }
+    → IsEntered n f towards before z l
+    → IsEntered n f towards after z l
+entered-grown n f towards before after z l grown h =
+    record { ways = λ forward end room'. grown (start_of n.shape l forward) (h.ways forward end room') }
 
 dry-grown : (n : NetworkParts) (f : FlowParts) (before after z : ℕ)
     → ((w : ℕ) → IsTrue (inside before w) → IsTrue (inside after w))
     → IsDry n f before z
     → IsDry n f after z
 dry-grown n f before after z grown h =
-    record { spare = h.spare; links = λ l below. entered-grown n f before after z l grown (h.links l below) }
-
--- nothing was done
-pub draws-none : (n : NetworkParts) (f : FlowParts) (zone seen asked : ℕ)
-    → CanDraw n f zone seen asked
-    → Draws n f f zone seen seen asked 0
-draws-none n f zone seen asked can =
-    record {
-      shape = can.shape;
-      limits = can.limits;
-      moves = moves-none n.shape f zone;
-      most = omega arith;
-      grown = λ z h. h;
-      above = omega arith;
-      among = can.among;
-      kept = λ l below a b. refl;
-      still = λ e. refl;
-      dry = λ e z h. inl h;
-    }
+    record { spare = h.spare; links = λ l below. entered-grown n f true before after z l grown (h.links l below) }
 
 -- a zone's own spare is taken first
 pub draws-spare : (n : NetworkParts) (old new : FlowParts) (zone seen asked given : ℕ) (listed : List ℕ)
@@ -66,7 +45,7 @@ draws-spare n old new zone seen asked given listed can among is after =
     let flows : (l : ℕ) → flow_at new l ≡ flow_at old l = λ l. ap (λ (f : FlowParts). flow_at f l) after in
     let limits : IsWithinLimits n new =
     let P : FlowParts → Type 0 = λ f. IsWithinLimits n f in
-    subst P (sym after) record { forward = can.limits.forward; backward = can.limits.backward } in
+    subst P (sym after) record { ways = can.limits.ways } in
     let still : given ≡ 0 → new ≡ old =
     λ nothing.
     let left : spare_at old zone - given ≡ get_or old.spares zone 0 = omega arith in
@@ -123,7 +102,7 @@ draws-then n old mid new zone before between after asked first second a b =
 pub draws-more : (n : NetworkParts) (old mid new : FlowParts) (zone before between after asked first second : ℕ) (listed : List ℕ) (upto : ℕ)
     → DrawsSoFar n old mid zone before between asked first listed upto
     → Draws n mid new zone between after (asked - first) second
-    → (second ≡ 0 → IsEntered n mid after zone (get_or listed upto 0))
+    → (second ≡ 0 → IsEntered n mid true after zone (get_or listed upto 0))
     → DrawsSoFar n old new zone before after asked (first + second) listed (upto + 1)
 draws-more n old mid new zone before between after asked first second listed upto a b entered =
     record {
@@ -133,21 +112,32 @@ draws-more n old mid new zone before between after asked first second listed upt
           λ nothing k below.
           elim (cases_eq k upto) [
             | inl here ↦
-                let at : IsEntered n old after zone (get_or listed upto 0) =
-                subst (λ (f : FlowParts). IsEntered n f after zone (get_or listed upto 0)) (a.draws.still (omega arith)) (entered (omega arith)) in
-                subst (λ (i : ℕ). IsEntered n old after zone (get_or listed i 0)) (sym here) at
+                let at : IsEntered n old true after zone (get_or listed upto 0) =
+                subst (λ (f : FlowParts). IsEntered n f true after zone (get_or listed upto 0)) (a.draws.still (omega arith)) (entered (omega arith)) in
+                subst (λ (i : ℕ). IsEntered n old true after zone (get_or listed i 0)) (sym here) at
             | inr other ↦
-                entered-grown n old between after zone (get_or listed k 0) b.grown (a.entered (omega arith) k (omega arith))
+                entered-grown n old true between after zone (get_or listed k 0) b.grown (a.entered (omega arith) k (omega arith))
           ];
     }
 
--- a link that is listed was searched
-entered-listed : (n : NetworkParts) (old : FlowParts) (zone after : ℕ) (listed : List ℕ) (l : ℕ)
-    → ((k : ℕ) → k < length listed → IsEntered n old after zone (get_or listed k 0))
-    → Contains listed l
-    → IsEntered n old after zone l
-entered-listed n old zone after listed l each (k, below, is) =
-    subst (λ (i : ℕ). IsEntered n old after zone i) (get_or_default listed k 0 l below ∙ is) (each k below)
+-- where each link that is listed for a zone was searched, each of its links was
+pub entered-listed : (n : NetworkParts) (f : FlowParts) (towards : Bool) (seen zone l : ℕ)
+    → ((k : ℕ) → k < length (links_of n.shape zone) → IsEntered n f towards seen zone (get_or (links_of n.shape zone) k 0))
+    → l < link_count n.shape
+    → IsEntered n f towards seen zone l
+entered-listed n f towards seen zone l each below =
+    record { ways = λ forward end room'. (at n f towards seen zone l each (listed n.shape zone l forward below end)).ways forward end room' }
+  where
+    at : (n : NetworkParts) (f : FlowParts) (towards : Bool) (seen zone l : ℕ)
+        → ((k : ℕ) → k < length (links_of n.shape zone) → IsEntered n f towards seen zone (get_or (links_of n.shape zone) k 0))
+        → Contains (links_of n.shape zone) l
+        → IsEntered n f towards seen zone l
+    at n f towards seen zone l each (k, below, is) =
+        subst (λ (i : ℕ). IsEntered n f towards seen zone i) (get_or_default (links_of n.shape zone) k 0 l below ∙ is) (each k below)
+
+    listed : (s : ShapeParts) (zone l : ℕ) (forward : Bool) → l < link_count s → end_of s l forward ≡ zone → Contains (links_of s zone) l
+    listed s zone l true below end = links_of-end s zone l below end
+    listed s zone l false below end = links_of-start s zone l below end
 
 -- at the zone's last link
 pub draws-own : (n : NetworkParts) (old new : FlowParts) (zone before after asked drawn upto : ℕ)
@@ -156,40 +146,15 @@ pub draws-own : (n : NetworkParts) (old new : FlowParts) (zone before after aske
     → drawn ≡ 0
     → IsDry n old after zone
 draws-own n old new zone before after asked drawn upto h all nothing =
-    let each : (k : ℕ) → k < length (links_of n.shape zone) → IsEntered n old after zone (get_or (links_of n.shape zone) k 0) =
-    λ k below. h.entered nothing k (omega arith) in
     record {
       spare = h.spare nothing;
       links =
           λ l below.
-          record {
-            forward =
-                λ end room.
-                (entered-listed n old zone after (links_of n.shape zone) l each (links_of-end n.shape zone l below end)).forward end room;
-            backward =
-                λ start room.
-                (entered-listed n old zone after (links_of n.shape zone) l each (links_of-start n.shape zone l below start)).backward start room;
-          };
-    }
-
--- the zone at the far end of a link is marked before it is searched
-pub can-draw_far : (n : NetworkParts) (f : FlowParts) (zone other seen marked asked asked' : ℕ)
-    → CanDraw n f zone seen asked
-    → AddsNumber seen other marked
-    → other < n.shape.zones
-    → 0 < asked'
-    → CanDraw n f other marked asked'
-can-draw_far n f zone other seen marked asked asked' can adds among some =
-    record {
-      shape = can.shape;
-      limits = can.limits;
-      zone_seen = adds.itself;
-      among = adds.among n.shape.zones can.among among;
-      some = some;
+          entered-listed n old true after zone l (λ k less. h.entered nothing k (omega arith)) below;
     }
 
 -- what was seen before a zone was marked is seen after it
-marked-grown : (seen other marked : ℕ) → AddsNumber seen other marked → (z : ℕ) → IsTrue (inside seen z) → IsTrue (inside marked z)
+pub marked-grown : (seen other marked : ℕ) → AddsNumber seen other marked → (z : ℕ) → IsTrue (inside seen z) → IsTrue (inside marked z)
 marked-grown seen other marked adds z h =
     elim (cases_eq z other) [
       | inl here ↦ subst (λ (w : ℕ). IsTrue (inside marked w)) (sym here) adds.itself
@@ -241,109 +206,115 @@ draws-still n old mid near far seen marked after asked asked' drawn can adds dra
     }
 
 -- a link's search, where something came, which goes on along the link
-pub draws-ahead : (n : NetworkParts) (old mid new : FlowParts) (link seen marked after asked asked' drawn : ℕ)
+pub draws-along : (n : NetworkParts) (old mid new : FlowParts) (link : ℕ) (forward : Bool) (seen marked after asked asked' drawn : ℕ)
     → IsShape n.shape
     → link < link_count n.shape
-    → CanDraw n old (to_zone n.shape link) seen asked
-    → inside seen (from_zone n.shape link) ≡ false
-    → AddsNumber seen (from_zone n.shape link) marked
+    → CanDraw n old (end_of n.shape link forward) seen asked
+    → inside seen (start_of n.shape link forward) ≡ false
+    → AddsNumber seen (start_of n.shape link forward) marked
     → asked' ≤ asked
-    → asked' ≤ room_ahead n old link
+    → asked' ≤ room n old link forward
     → 0 < drawn
-    → Draws n old mid (from_zone n.shape link) marked after asked' drawn
-    → Raises mid new link drawn
-    → Draws n old new (to_zone n.shape link) seen after asked drawn
-draws-ahead n old mid new link seen marked after asked asked' drawn valid among can unseen adds less roomy some draws moved =
-    let near_marked : IsTrue (inside marked (to_zone n.shape link)) =
-    marked-grown seen (from_zone n.shape link) marked adds (to_zone n.shape link) can.zone_seen in
-    let kept : flow_at mid link ≡ flow_at old link = draws.kept link among adds.itself near_marked in
+    → Draws n old mid (start_of n.shape link forward) marked after asked' drawn
+    → Carries mid new link forward drawn
+    → Draws n old new (end_of n.shape link forward) seen after asked drawn
+draws-along n old mid new link forward seen marked after asked asked' drawn valid among can unseen adds less roomy some draws moved =
+    let start : ℕ = start_of n.shape link forward in
+    let grown : (z : ℕ) → IsTrue (inside seen z) → IsTrue (inside marked z) = marked-grown seen (start_of n.shape link forward) marked adds in
+    let ends : IsTrue (inside marked (from_zone n.shape link)) × IsTrue (inside marked (to_zone n.shape link)) =
+    both_ends n.shape link forward (inside marked) adds.itself (grown (end_of n.shape link forward) can.zone_seen) in
+    let kept : flow_at mid link ≡ flow_at old link = draws.kept link among ends.0 ends.1 in
     record {
       shape = moved.shape ∙ draws.shape;
-      limits = raises-within n old mid new link drawn can.limits draws.limits among kept (omega (arith, draws.most)) moved;
-      moves = moves-raised n.shape old mid new link drawn valid among draws.moves moved;
+      limits = carries-within n old mid new link forward drawn can.limits draws.limits among kept (omega (arith, draws.most)) moved;
+      moves = moves-along n.shape old mid new link forward drawn valid among draws.moves moved;
       most = omega (arith, draws.most);
-      grown = λ z h. draws.grown z (marked-grown seen (from_zone n.shape link) marked adds z h);
+      grown = λ z h. draws.grown z (grown z h);
       above = omega (arith, adds.above, draws.above);
       among = draws.among;
       kept =
           λ l below p q.
-          let other : l ≢ link = λ here. false≢true (sym unseen ∙ ap (λ (k : ℕ). inside seen (from_zone n.shape k)) (sym here) ∙ p) in
-          moved.others l other
-          ∙ draws.kept l below (marked-grown seen (from_zone n.shape link) marked adds (from_zone n.shape l) p)
-          (marked-grown seen (from_zone n.shape link) marked adds (to_zone n.shape l) q);
+          let other : l ≢ link =
+          λ here.
+          let P : ℕ → Type 0 = λ k. IsTrue (inside seen (start_of n.shape k forward)) in
+          false≢true (sym unseen ∙ subst P here (start_there n.shape l forward (inside seen) p q)) in
+          moved.others l other ∙ draws.kept l below (grown (from_zone n.shape l) p) (grown (to_zone n.shape l) q);
       still = λ nothing. absurd (omega arith);
       dry = λ nothing. absurd (omega arith);
     }
 
--- the link itself comes from a zone that was seen
-pub entered-ahead : (n : NetworkParts) (old mid : FlowParts) (link seen marked after asked drawn : ℕ)
+-- the way into a zone comes from a zone that was seen
+pub entered-way : (n : NetworkParts) (f : FlowParts) (towards : Bool) (link : ℕ) (forward : Bool) (seen : ℕ)
     → IsShape n.shape
     → link < link_count n.shape
-    → AddsNumber seen (from_zone n.shape link) marked
-    → Draws n old mid (from_zone n.shape link) marked after asked drawn
-    → IsEntered n old after (to_zone n.shape link) link
-entered-ahead n old mid link seen marked after asked drawn valid among adds draws =
-    let ends : IsLinkAmong n.shape.zones (link_at n.shape link) = link_among n.shape link valid among in
-    let far_seen : IsTrue (inside after (from_zone n.shape link)) = draws.grown (from_zone n.shape link) adds.itself in
-    record { forward = λ end room. far_seen; backward = λ start room. absurd (ends.apart start) }
-
--- a link's search, where something came, which goes on along the link
-pub draws-back : (n : NetworkParts) (old mid new : FlowParts) (link seen marked after asked asked' drawn : ℕ)
-    → IsShape n.shape
-    → link < link_count n.shape
-    → CanDraw n old (from_zone n.shape link) seen asked
-    → inside seen (to_zone n.shape link) ≡ false
-    → AddsNumber seen (to_zone n.shape link) marked
-    → asked' ≤ asked
-    → asked' ≤ room_back n old link
-    → 0 < drawn
-    → Draws n old mid (to_zone n.shape link) marked after asked' drawn
-    → Lowers mid new link drawn
-    → Draws n old new (from_zone n.shape link) seen after asked drawn
-draws-back n old mid new link seen marked after asked asked' drawn valid among can unseen adds less roomy some draws moved =
-    let near_marked : IsTrue (inside marked (from_zone n.shape link)) =
-    marked-grown seen (to_zone n.shape link) marked adds (from_zone n.shape link) can.zone_seen in
-    let kept : flow_at mid link ≡ flow_at old link = draws.kept link among near_marked adds.itself in
+    → IsTrue (inside seen (start_of n.shape link forward))
+    → IsEntered n f towards seen (end_of n.shape link forward) link
+entered-way n f towards link forward seen valid among h =
     record {
-      shape = moved.shape ∙ draws.shape;
-      limits = lowers-within n old mid new link drawn can.limits draws.limits among kept (omega (arith, draws.most)) moved;
-      moves = moves-lowered n.shape old mid new link drawn valid among draws.moves moved;
-      most = omega (arith, draws.most);
-      grown = λ z h. draws.grown z (marked-grown seen (to_zone n.shape link) marked adds z h);
-      above = omega (arith, adds.above, draws.above);
-      among = draws.among;
-      kept =
-          λ l below p q.
-          let other : l ≢ link = λ here. false≢true (sym unseen ∙ ap (λ (k : ℕ). inside seen (to_zone n.shape k)) (sym here) ∙ q) in
-          moved.others l other
-          ∙ draws.kept l below (marked-grown seen (to_zone n.shape link) marked adds (from_zone n.shape l) p)
-          (marked-grown seen (to_zone n.shape link) marked adds (to_zone n.shape l) q);
-      still = λ nothing. absurd (omega arith);
-      dry = λ nothing. absurd (omega arith);
+      ways =
+          λ other end room'.
+          let P : Bool → Type 0 = λ b. IsTrue (inside seen (start_of n.shape link b)) in
+          subst P (sym (one_way n.shape link forward other valid among end)) h;
     }
 
--- the link itself comes from a zone that was seen
-pub entered-back : (n : NetworkParts) (old mid : FlowParts) (link seen marked after asked drawn : ℕ)
+-- and a link that is full this way needs none
+pub entered-full : (n : NetworkParts) (f : FlowParts) (towards : Bool) (link : ℕ) (forward : Bool) (seen : ℕ)
     → IsShape n.shape
     → link < link_count n.shape
-    → AddsNumber seen (to_zone n.shape link) marked
-    → Draws n old mid (to_zone n.shape link) marked after asked drawn
-    → IsEntered n old after (from_zone n.shape link) link
-entered-back n old mid link seen marked after asked drawn valid among adds draws =
-    let ends : IsLinkAmong n.shape.zones (link_at n.shape link) = link_among n.shape link valid among in
-    let far_seen : IsTrue (inside after (to_zone n.shape link)) = draws.grown (to_zone n.shape link) adds.itself in
-    record { forward = λ end room. absurd (ends.apart (sym end)); backward = λ start room. far_seen }
+    → room n f link (way towards forward) ≡ 0
+    → IsEntered n f towards seen (end_of n.shape link forward) link
+entered-full n f towards link forward seen valid among full =
+    record {
+      ways =
+          λ other end room'.
+          let P : Bool → Type 0 = λ b. 0 < room n f link (way towards b) in
+          let some : 0 < room n f link (way towards forward) = subst P (one_way n.shape link forward other valid among end) room' in
+          absurd (omega arith);
+    }
 
--- where a search from the goal alone moves nothing, no zone with a spare reaches the goal
+-- how far a pull has come: the goal's own spare was taken, and searches brought more
+pub record PullsSoFar (n : NetworkParts) (old new : FlowParts) (goal asked moved : ℕ) : Type 0 where
+  pub shape : new.shape ≡ n.shape
+  pub limits : IsWithinLimits n new
+  pub moves : Moves n.shape old new goal moved
+  pub most : moved ≤ asked
+  pub own : spare_at new goal ≡ 0 ⊎ (spare_at new goal + asked ≤ spare_at old goal)
+
+pub pulls-own : (n : NetworkParts) (old new : FlowParts) (goal asked given : ℕ)
+    → old.shape ≡ n.shape
+    → IsWithinLimits n old
+    → goal < length old.spares
+    → given ≡ min (spare_at old goal) asked
+    → new ≡ record old { spares = slice_set old.spares goal (spare_at old goal - given) }
+    → PullsSoFar n old new goal asked given
+pulls-own n old new goal asked given shape limits among is after =
+    let within : IsWithinLimits n new =
+    let P : FlowParts → Type 0 = λ f. IsWithinLimits n f in
+    subst P (sym after) record { ways = limits.ways } in
+    let left : spare_at new goal ≡ spare_at old goal - given =
+    ap (λ (f : FlowParts). spare_at f goal) after
+    ∙ get_or-set_same old.spares goal (spare_at old goal - given) 0 among in
+    record {
+      shape = ap (λ (f : FlowParts). f.shape) after ∙ shape;
+      limits = within;
+      moves = moves-spare n.shape old new goal given among (omega arith) after;
+      most = omega arith;
+      own =
+          elim (cases_lt (spare_at old goal) asked) [
+            | inl less ↦ inl (omega arith)
+            | inr enough ↦ inr (omega arith)
+          ];
+    }
+
+-- where a search from the goal alone moves nothing, what it saw is used up
 pub pull-short : (n : NetworkParts) (old new : FlowParts) (goal seen after asked drawn : ℕ)
+    → IsShape n.shape
     → AddsNumber 0 goal seen
     → Draws n old new goal seen after asked drawn
     → (drawn ≡ 0 → IsDry n old after goal)
     → drawn ≡ 0
-    → (z : ℕ)
-    → Reaches n new z goal
-    → spare_at new z ≡ 0
-pull-short n old new goal seen after asked drawn adds draws own nothing z reaches =
+    → IsUsedUp n new goal after
+pull-short n old new goal seen after asked drawn valid adds draws own nothing =
     let same : new ≡ old = draws.still nothing in
     let dry : (w : ℕ) → IsTrue (inside after w) → IsDry n old after w =
     λ w h.
@@ -355,11 +326,14 @@ pull-short n old new goal seen after asked drawn adds draws own nothing z reache
           ]
       | inr found ↦ found
     ] in
-    let closed : IsClosedBefore n old (inside after) =
+    let P : FlowParts → Type 0 = λ f. IsUsedUp n f goal after in
+    subst P (sym same)
     record {
-      forward = λ l below room at. ((dry (to_zone n.shape l) at).links l below).forward refl room;
-      backward = λ l below room at. ((dry (from_zone n.shape l) at).links l below).backward refl room;
-    } in
-    let closed' : IsClosedBefore n new (inside after) = subst (λ (f : FlowParts). IsClosedBefore n f (inside after)) (sym same) closed in
-    let there : IsTrue (inside after z) = reaches (inside after) closed' (draws.grown goal adds.itself) in
-    ap (λ (f : FlowParts). spare_at f z) same ∙ (dry z there).spare
+      among = draws.among;
+      itself = draws.grown goal adds.itself;
+      closed =
+          record {
+            through = λ l forward below room' at. ((dry (end_of n.shape l forward) at).links l below).ways forward refl room';
+          };
+      spare = λ z at. (dry z at).spare;
+    }

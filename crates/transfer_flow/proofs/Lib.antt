@@ -1,4 +1,4 @@
-pub mod MaskLemmas
+pub mod WayLemmas
 pub mod MoveLemmas
 pub mod DrawLemmas
 pub mod SpreadLemmas

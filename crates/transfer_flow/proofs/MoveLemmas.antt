@@ -1,107 +1,66 @@
-use Rattle.std.proofs.Common.{◌≡◌, ◌≢◌, ℕ, ℤ, pos, negsuc, ◌+◌, ◌-◌, ◌<◌, ◌≤◌, ◌==◌, ◌⊎◌, inl, inr, true, false, length, List, get_or, refl, ap, sym, arith, subst}
+use Rattle.std.proofs.Common.{◌≡◌, ◌≢◌, ℕ, ℤ, pos, negsuc, ◌+◌, ◌-◌, ◌<◌, ◌≤◌, ◌==◌, ◌⊎◌, inl, inr, Bool, true, false, not, cond, length, List, get_or, refl, ap, sym, arith, subst}
 use Rattle.std.proofs.lemmas.List.{get_or-set_same, get_or-set_other}
-use Rattle.std.proofs.lemmas.Bool.{eq-eqb, ne_eqb, cases_eq}
+use Rattle.std.proofs.lemmas.Bool.{eq-eqb, ne_eqb, cases_eq, cond-true, cond-false}
 use Rattle.std.specs.Prelude.{slice_set}
-use Rattle.zone_network.specs.Network.{ShapeParts, NetworkParts, IsShape, IsLinkAmong, link_count, from_zone, to_zone, ahead, back, inflow, outflow, forward_at, backward_at}
-use Rattle.zone_network.proofs.SumLemmas.{sum_where-changed, sum_where-outside}
-use Rattle.zone_network.proofs.FlowLemmas.{link_among}
-use Rattle.transfer_flow.specs.Flow.{FlowParts, flow_at, spare_at, IsWithinLimits, Moves}
-use Rattle.transfer_flow.specs.Draw.{Raises, Lowers}
-use Rattle.transfer_flow.specs.Reach.{room_ahead, room_back}
+use Rattle.zone_network.specs.Network.{ShapeParts, NetworkParts, IsShape, link_count, from_zone, to_zone, forward_of, backward_of, inflow, outflow}
+use Rattle.zone_network.proofs.SumLemmas.{sum_where-at}
+use Rattle.transfer_flow.specs.Flow.{FlowParts, flow_at, spare_at, carried, limit_at, IsWithinLimits, Moves}
+use Rattle.transfer_flow.specs.Draw.{Carries}
+use Rattle.transfer_flow.specs.Reach.{room, start_of, end_of}
+use Rattle.transfer_flow.proofs.WayLemmas.{ends_apart}
 
 -- of a signed flow one part is 0
-pub one_way : (flow : ℤ) → (ahead flow ≡ 0) ⊎ (back flow ≡ 0)
-one_way (pos mw) = inr refl
-one_way (negsuc below) = inl refl
+carried_one_way : (flow : ℤ) (forward : Bool) → (carried flow forward ≡ 0) ⊎ (carried flow (not forward) ≡ 0)
+carried_one_way (pos mw) true = inr refl
+carried_one_way (pos mw) false = inl refl
+carried_one_way (negsuc below) true = inl refl
+carried_one_way (negsuc below) false = inr refl
 
--- two flows that differ at one link alone, the second carrying so much more forward there
-pub record Shifts (s : ShapeParts) (f g : ℕ → ℤ) (link by : ℕ) : Type 0 where
-  pub among : link < link_count s
-  pub here : ahead (g link) + back (f link) ≡ ahead (f link) + back (g link) + by
-  pub others : (l : ℕ) → l ≢ link → g l ≡ f l
-
--- what leaves the link's first zone, net, rises by so much
-pub shifts-start : (s : ShapeParts) (f g : ℕ → ℤ) (link by : ℕ)
-    → IsShape s
-    → Shifts s f g link by
-    → outflow s g (from_zone s link) + inflow s f (from_zone s link)
-    ≡ outflow s f (from_zone s link) + inflow s g (from_zone s link) + by
-shifts-start s f g link by valid h =
-    let ends : IsLinkAmong s.zones _ = link_among s link valid h.among in
-    let z : ℕ = from_zone s link in
-    let at : (from_zone s link == from_zone s link) ≡ true = eq-eqb (from_zone s link) (from_zone s link) refl in
-    let apart : (to_zone s link == from_zone s link) ≡ false =
-    ne_eqb (to_zone s link) (from_zone s link) (λ e. ends.apart (sym e)) in
-    let aheads : (l : ℕ) → l ≢ link → ahead (f l) ≡ ahead (g l) = λ l other. ap ahead (sym (h.others l other)) in
-    let backs : (l : ℕ) → l ≢ link → back (f l) ≡ back (g l) = λ l other. ap back (sym (h.others l other)) in
-    omega (
-      arith,
-      h.here,
-      sum_where-changed (λ l. from_zone s l == from_zone s link) (λ l. ahead (f l)) (λ l. ahead (g l)) (link_count s) link h.among at aheads,
-      sum_where-changed (λ l. from_zone s l == from_zone s link) (λ l. back (f l)) (λ l. back (g l)) (link_count s) link h.among at backs,
-      sum_where-outside (λ l. to_zone s l == from_zone s link) (λ l. ahead (f l)) (λ l. ahead (g l)) (link_count s) link apart aheads,
-      sum_where-outside (λ l. to_zone s l == from_zone s link) (λ l. back (f l)) (λ l. back (g l)) (link_count s) link apart backs,
-    )
-
--- what enters the link's second zone, net, rises by so much
-pub shifts-end : (s : ShapeParts) (f g : ℕ → ℤ) (link by : ℕ)
-    → IsShape s
-    → Shifts s f g link by
-    → inflow s g (to_zone s link) + outflow s f (to_zone s link)
-    ≡ inflow s f (to_zone s link) + outflow s g (to_zone s link) + by
-shifts-end s f g link by valid h =
-    let ends : IsLinkAmong s.zones _ = link_among s link valid h.among in
-    let at : (to_zone s link == to_zone s link) ≡ true = eq-eqb (to_zone s link) (to_zone s link) refl in
-    let apart : (from_zone s link == to_zone s link) ≡ false = ne_eqb (from_zone s link) (to_zone s link) ends.apart in
-    let aheads : (l : ℕ) → l ≢ link → ahead (f l) ≡ ahead (g l) = λ l other. ap ahead (sym (h.others l other)) in
-    let backs : (l : ℕ) → l ≢ link → back (f l) ≡ back (g l) = λ l other. ap back (sym (h.others l other)) in
-    omega (
-      arith,
-      h.here,
-      sum_where-changed (λ l. to_zone s l == to_zone s link) (λ l. ahead (f l)) (λ l. ahead (g l)) (link_count s) link h.among at aheads,
-      sum_where-changed (λ l. to_zone s l == to_zone s link) (λ l. back (f l)) (λ l. back (g l)) (link_count s) link h.among at backs,
-      sum_where-outside (λ l. from_zone s l == to_zone s link) (λ l. ahead (f l)) (λ l. ahead (g l)) (link_count s) link apart aheads,
-      sum_where-outside (λ l. from_zone s l == to_zone s link) (λ l. back (f l)) (λ l. back (g l)) (link_count s) link apart backs,
-    )
-
--- elsewhere nothing changes
-pub shifts-elsewhere : (s : ShapeParts) (f g : ℕ → ℤ) (link by z : ℕ)
-    → Shifts s f g link by
-    → z ≢ from_zone s link
-    → z ≢ to_zone s link
-    → outflow s g z + inflow s f z ≡ outflow s f z + inflow s g z
-shifts-elsewhere s f g link by z h not_start not_end =
-    let a : (to_zone s link == z) ≡ false = ne_eqb (to_zone s link) z (λ e. not_end (sym e)) in
-    let b : (from_zone s link == z) ≡ false = ne_eqb (from_zone s link) z (λ e. not_start (sym e)) in
-    let aheads : (l : ℕ) → l ≢ link → ahead (f l) ≡ ahead (g l) = λ l other. ap ahead (sym (h.others l other)) in
-    let backs : (l : ℕ) → l ≢ link → back (f l) ≡ back (g l) = λ l other. ap back (sym (h.others l other)) in
-    omega (
-      arith,
-      sum_where-outside (λ l. to_zone s l == z) (λ l. ahead (f l)) (λ l. ahead (g l)) (link_count s) link a aheads,
-      sum_where-outside (λ l. to_zone s l == z) (λ l. back (f l)) (λ l. back (g l)) (link_count s) link a backs,
-      sum_where-outside (λ l. from_zone s l == z) (λ l. ahead (f l)) (λ l. ahead (g l)) (link_count s) link b aheads,
-      sum_where-outside (λ l. from_zone s l == z) (λ l. back (f l)) (λ l. back (g l)) (link_count s) link b backs,
-    )
-
-pub raises-shifts : (s : ShapeParts) (old new : FlowParts) (link by : ℕ)
+-- of two flows that differ at one link alone, where the second goes so much more forward: what leaves the link's
+-- first zone, net, is so much more, and what enters its second
+shifts-forward : (s : ShapeParts) (f g : ℕ → ℤ) (link by z : ℕ)
     → link < link_count s
-    → Raises old new link by
-    → Shifts s (flow_at old) (flow_at new) link by
-raises-shifts s old new link by among h =
-    record { among = among; here = omega (arith, h.forward, h.backward); others = h.others }
+    → ((l : ℕ) → l ≢ link → f l ≡ g l)
+    → forward_of (g link) + backward_of (f link) ≡ forward_of (f link) + backward_of (g link) + by
+    → outflow s g z + inflow s f z + cond (to_zone s link == z) by 0 ≡ outflow s f z + inflow s g z + cond (from_zone s link == z) by 0
+shifts-forward s f g link by z among others here =
+    let forwards : (l : ℕ) → l ≢ link → forward_of (f l) ≡ forward_of (g l) = λ l other. ap forward_of (others l other) in
+    let backwards : (l : ℕ) → l ≢ link → backward_of (f l) ≡ backward_of (g l) = λ l other. ap backward_of (others l other) in
+    let a : Bool = from_zone s link == z in
+    let b : Bool = to_zone s link == z in
+    let terms : cond b (forward_of (g link)) 0 + cond b (backward_of (f link)) 0 + (cond a (forward_of (f link)) 0 + cond a (backward_of (g link)) 0) + cond a by 0
+    ≡ cond b (forward_of (f link)) 0 + cond b (backward_of (g link)) 0 + (cond a (forward_of (g link)) 0 + cond a (backward_of (f link)) 0) + cond b by 0 =
+    at_ends a b (forward_of (f link)) (forward_of (g link)) (backward_of (f link)) (backward_of (g link)) by here in
+    omega (
+      arith,
+      sum_where-at (λ l. from_zone s l == z) (λ l. forward_of (f l)) (λ l. forward_of (g l)) (link_count s) link among forwards,
+      sum_where-at (λ l. to_zone s l == z) (λ l. backward_of (f l)) (λ l. backward_of (g l)) (link_count s) link among backwards,
+      sum_where-at (λ l. to_zone s l == z) (λ l. forward_of (f l)) (λ l. forward_of (g l)) (link_count s) link among forwards,
+      sum_where-at (λ l. from_zone s l == z) (λ l. backward_of (f l)) (λ l. backward_of (g l)) (link_count s) link among backwards,
+    )
+  where
+    at_ends : (a b : Bool) (ff fg bf bg by : ℕ)
+        → fg + bf ≡ ff + bg + by
+        → cond b fg 0 + cond b bf 0 + (cond a ff 0 + cond a bg 0) + cond a by 0
+        ≡ cond b ff 0 + cond b bg 0 + (cond a fg 0 + cond a bf 0) + cond b by 0
+    at_ends true true ff fg bf bg by h = omega arith
+    at_ends true false ff fg bf bg by h = omega arith
+    at_ends false true ff fg bf bg by h = omega arith
+    at_ends false false ff fg bf bg by h = omega arith
 
-pub lowers-shifts : (s : ShapeParts) (old new : FlowParts) (link by : ℕ)
+-- the same each way
+shifts : (s : ShapeParts) (f g : ℕ → ℤ) (link : ℕ) (forward : Bool) (by z : ℕ)
     → link < link_count s
-    → Lowers old new link by
-    → Shifts s (flow_at new) (flow_at old) link by
-lowers-shifts s old new link by among h =
-    record { among = among; here = omega (arith, h.forward, h.backward); others = λ l other. sym (h.others l other) }
+    → ((l : ℕ) → l ≢ link → f l ≡ g l)
+    → carried (g link) forward + carried (f link) (not forward) ≡ carried (f link) forward + carried (g link) (not forward) + by
+    → outflow s g z + inflow s f z + cond (end_of s link forward == z) by 0 ≡ outflow s f z + inflow s g z + cond (start_of s link forward == z) by 0
+shifts s f g link true by z among others here = shifts-forward s f g link by z among others here
+shifts s f g link false by z among others here =
+    omega (arith, shifts-forward s g f link by z among (λ l other. sym (others l other)) (omega arith))
 
+-- nothing moved
 pub moves-none : (s : ShapeParts) (f : FlowParts) (goal : ℕ) → Moves s f f goal 0
 moves-none s f goal = record { others = λ z other. omega arith; arrives = omega arith; fell = λ z. omega arith }
-
-pub moves-same : (s : ShapeParts) (old new : FlowParts) (goal : ℕ) → new ≡ old → Moves s old new goal 0
-moves-same s old new goal e = let P : FlowParts → Type 0 = λ f. Moves s old f goal 0 in subst P (sym e) (moves-none s old goal)
 
 -- one move after another
 pub moves-then : (s : ShapeParts) (old mid new : FlowParts) (goal a b : ℕ)
@@ -116,55 +75,59 @@ moves-then s old mid new goal a b first second =
     }
 
 -- what came to a zone goes on along one link
-pub moves-raised : (s : ShapeParts) (old mid new : FlowParts) (link by : ℕ)
+pub moves-along : (s : ShapeParts) (old mid new : FlowParts) (link : ℕ) (forward : Bool) (by : ℕ)
     → IsShape s
     → link < link_count s
-    → Moves s old mid (from_zone s link) by
-    → Raises mid new link by
-    → Moves s old new (to_zone s link) by
-moves-raised s old mid new link by valid among move raise =
-    let ends : IsLinkAmong s.zones _ = link_among s link valid among in
-    let h : Shifts s (flow_at mid) (flow_at new) link by = raises-shifts s mid new link by among raise in
-    let spares : (z : ℕ) → spare_at new z ≡ spare_at mid z = λ z. ap (λ (xs : List ℕ). get_or xs z 0) raise.spares in
+    → Moves s old mid (start_of s link forward) by
+    → Carries mid new link forward by
+    → Moves s old new (end_of s link forward) by
+moves-along s old mid new link forward by valid among move carry =
+    let start : ℕ = start_of s link forward in
+    let end : ℕ = end_of s link forward in
+    let apart : start_of s link forward ≢ end_of s link forward = ends_apart s link forward valid among in
+    let net : (z : ℕ)
+    → outflow s (flow_at new) z + inflow s (flow_at mid) z + cond (end_of s link forward == z) by 0
+    ≡ outflow s (flow_at mid) z + inflow s (flow_at new) z + cond (start_of s link forward == z) by 0 =
+    λ z.
+    shifts s (flow_at mid) (flow_at new) link forward by z among (λ l other. sym (carry.others l other))
+    (omega (arith, carry.along, carry.against)) in
+    let spares : (z : ℕ) → spare_at new z ≡ spare_at mid z = λ z. ap (λ (xs : List ℕ). get_or xs z 0) carry.spares in
+    let is : (w z : ℕ) → w ≡ z → cond (w == z) by 0 ≡ by = λ w z e. cond-true (w == z) by 0 (eq-eqb w z e) in
+    let isnt : (w z : ℕ) → w ≢ z → cond (w == z) by 0 ≡ 0 = λ w z e. cond-false (w == z) by 0 (ne_eqb w z e) in
     record {
       others =
           λ z other.
-          elim (cases_eq z (from_zone s link)) [
-            | inl start ↦
+          elim (cases_eq z (start_of s link forward)) [
+            | inl here ↦
                 subst (λ (w : ℕ). outflow s (flow_at new) w + inflow s (flow_at old) w + spare_at new w ≡ outflow s (flow_at old) w + inflow s (flow_at new) w + spare_at old w)
-                (sym start)
-                (omega (arith, move.arrives, shifts-start s (flow_at mid) (flow_at new) link by valid h, spares (from_zone s link)))
-            | inr not_start ↦
-                omega (arith, move.others z not_start, shifts-elsewhere s (flow_at mid) (flow_at new) link by z h not_start other, spares z)
+                (sym here)
+                (omega (
+                  arith,
+                  move.arrives,
+                  net (start_of s link forward),
+                  spares (start_of s link forward),
+                  is (start_of s link forward) (start_of s link forward) refl,
+                  isnt (end_of s link forward) (start_of s link forward) (λ e. apart (sym e)),
+                ))
+            | inr elsewhere ↦
+                omega (
+                  arith,
+                  move.others z elsewhere,
+                  net z,
+                  spares z,
+                  isnt (start_of s link forward) z (λ e. elsewhere (sym e)),
+                  isnt (end_of s link forward) z (λ e. other (sym e)),
+                )
           ];
       arrives =
-          omega (arith, move.others (to_zone s link) (λ e. ends.apart (sym e)), shifts-end s (flow_at mid) (flow_at new) link by valid h, spares (to_zone s link));
-      fell = λ z. omega (arith, move.fell z, spares z);
-    }
-
-pub moves-lowered : (s : ShapeParts) (old mid new : FlowParts) (link by : ℕ)
-    → IsShape s
-    → link < link_count s
-    → Moves s old mid (to_zone s link) by
-    → Lowers mid new link by
-    → Moves s old new (from_zone s link) by
-moves-lowered s old mid new link by valid among move lower =
-    let ends : IsLinkAmong s.zones _ = link_among s link valid among in
-    let h : Shifts s (flow_at new) (flow_at mid) link by = lowers-shifts s mid new link by among lower in
-    let spares : (z : ℕ) → spare_at new z ≡ spare_at mid z = λ z. ap (λ (xs : List ℕ). get_or xs z 0) lower.spares in
-    record {
-      others =
-          λ z other.
-          elim (cases_eq z (to_zone s link)) [
-            | inl end ↦
-                subst (λ (w : ℕ). outflow s (flow_at new) w + inflow s (flow_at old) w + spare_at new w ≡ outflow s (flow_at old) w + inflow s (flow_at new) w + spare_at old w)
-                (sym end)
-                (omega (arith, move.arrives, shifts-end s (flow_at new) (flow_at mid) link by valid h, spares (to_zone s link)))
-            | inr not_end ↦
-                omega (arith, move.others z not_end, shifts-elsewhere s (flow_at new) (flow_at mid) link by z h other not_end, spares z)
-          ];
-      arrives =
-          omega (arith, move.others (from_zone s link) ends.apart, shifts-start s (flow_at new) (flow_at mid) link by valid h, spares (from_zone s link));
+          omega (
+            arith,
+            move.others (end_of s link forward) (λ e. apart (sym e)),
+            net (end_of s link forward),
+            spares (end_of s link forward),
+            is (end_of s link forward) (end_of s link forward) refl,
+            isnt (start_of s link forward) (end_of s link forward) apart,
+          );
       fell = λ z. omega (arith, move.fell z, spares z);
     }
 
@@ -194,69 +157,40 @@ moves-spare s old new goal given among most e =
           ];
     }
 
--- a flow that rises by at most its room stays within its limits
-pub raises-within : (n : NetworkParts) (old mid new : FlowParts) (link by : ℕ)
+-- a flow that carries more by at most its room stays within its limits
+pub carries-within : (n : NetworkParts) (old mid new : FlowParts) (link : ℕ) (forward : Bool) (by : ℕ)
     → IsWithinLimits n old
     → IsWithinLimits n mid
     → link < link_count n.shape
     → flow_at mid link ≡ flow_at old link
-    → by ≤ room_ahead n old link
-    → Raises mid new link by
+    → by ≤ room n old link forward
+    → Carries mid new link forward by
     → IsWithinLimits n new
-raises-within n old mid new link by before within among kept most raise =
-    let a : ahead (flow_at mid link) ≡ ahead (flow_at old link) = ap ahead kept in
-    let b : back (flow_at mid link) ≡ back (flow_at old link) = ap back kept in
-    let limit : ahead (flow_at old link) ≤ forward_at n link = before.forward link among in
-    let limit' : back (flow_at old link) ≤ backward_at n link = before.backward link among in
+carries-within n old mid new link forward by before within among kept most carry =
+    let same : (way : Bool) → carried (flow_at mid link) way ≡ carried (flow_at old link) way =
+    λ way. ap (λ (flow : ℤ). carried flow way) kept in
+    let along : carried (flow_at new link) forward ≤ limit_at n link forward =
+    elim (carried_one_way (flow_at old link) forward) [
+      | inl nothing ↦ omega (arith, carry.along, same forward, same (not forward), before.ways link forward among)
+      | inr nothing ↦ omega (arith, carry.along, same forward, same (not forward), before.ways link forward among)
+    ] in
+    let against : carried (flow_at new link) (not forward) ≤ limit_at n link (not forward) =
+    omega (arith, carry.against, same (not forward), before.ways link (not forward) among) in
     record {
-      forward =
-          λ l below.
+      ways =
+          λ l way below.
           elim (cases_eq l link) [
             | inl here ↦
-                subst (λ (k : ℕ). ahead (flow_at new k) ≤ forward_at n k) (sym here)
-                (elim (one_way (flow_at old link)) [
-                  | inl nothing ↦ omega (arith, raise.forward)
-                  | inr nothing ↦ omega (arith, raise.forward)
-                ])
-            | inr other ↦ omega (arith, ap ahead (raise.others l other), within.forward l below)
-          ];
-      backward =
-          λ l below.
-          elim (cases_eq l link) [
-            | inl here ↦ subst (λ (k : ℕ). back (flow_at new k) ≤ backward_at n k) (sym here) (omega (arith, raise.backward))
-            | inr other ↦ omega (arith, ap back (raise.others l other), within.backward l below)
+                subst (λ (k : ℕ). carried (flow_at new k) way ≤ limit_at n k way) (sym here) (each n new link forward way along against)
+            | inr other ↦ omega (arith, ap (λ (flow : ℤ). carried flow way) (carry.others l other), within.ways l way below)
           ];
     }
-
-pub lowers-within : (n : NetworkParts) (old mid new : FlowParts) (link by : ℕ)
-    → IsWithinLimits n old
-    → IsWithinLimits n mid
-    → link < link_count n.shape
-    → flow_at mid link ≡ flow_at old link
-    → by ≤ room_back n old link
-    → Lowers mid new link by
-    → IsWithinLimits n new
-lowers-within n old mid new link by before within among kept most lower =
-    let a : ahead (flow_at mid link) ≡ ahead (flow_at old link) = ap ahead kept in
-    let b : back (flow_at mid link) ≡ back (flow_at old link) = ap back kept in
-    let limit : ahead (flow_at old link) ≤ forward_at n link = before.forward link among in
-    let limit' : back (flow_at old link) ≤ backward_at n link = before.backward link among in
-    record {
-      forward =
-          λ l below.
-          elim (cases_eq l link) [
-            | inl here ↦ subst (λ (k : ℕ). ahead (flow_at new k) ≤ forward_at n k) (sym here) (omega (arith, lower.forward))
-            | inr other ↦ omega (arith, ap ahead (lower.others l other), within.forward l below)
-          ];
-      backward =
-          λ l below.
-          elim (cases_eq l link) [
-            | inl here ↦
-                subst (λ (k : ℕ). back (flow_at new k) ≤ backward_at n k) (sym here)
-                (elim (one_way (flow_at old link)) [
-                  | inl nothing ↦ omega (arith, lower.backward)
-                  | inr nothing ↦ omega (arith, lower.backward)
-                ])
-            | inr other ↦ omega (arith, ap back (lower.others l other), within.backward l below)
-          ];
-    }
+  where
+    each : (n : NetworkParts) (new : FlowParts) (link : ℕ) (forward way : Bool)
+        → carried (flow_at new link) forward ≤ limit_at n link forward
+        → carried (flow_at new link) (not forward) ≤ limit_at n link (not forward)
+        → carried (flow_at new link) way ≤ limit_at n link way
+    each n new link true true a b = a
+    each n new link true false a b = b
+    each n new link false true a b = b
+    each n new link false false a b = a

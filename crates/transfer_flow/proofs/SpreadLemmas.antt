@@ -1,128 +1,216 @@
-use Rattle.std.proofs.Common.{◌≡◌, ℕ, ◌+◌, ◌<◌, inl, inr, Bool, true, sym, arith, subst}
+use Rattle.std.proofs.Common.{◌≡◌, ℕ, ◌+◌, ◌<◌, ◌≤◌, ◌^◌, inl, inr, Bool, true, false, length, get_or, refl, sym, ◌∙◌, arith, subst}
 use Rattle.std.specs.Prelude.{IsTrue}
-use Rattle.std.proofs.lemmas.Bool.{cases_eq}
+use Rattle.std.proofs.lemmas.Bool.{cases_eq, false≢true}
 use Rattle.zone_network.specs.Sums.{inside}
-use Rattle.zone_network.specs.Network.{NetworkParts, IsShape, IsLinkAmong, link_count, link_at, from_zone, to_zone}
-use Rattle.zone_network.proofs.FlowLemmas.{link_among}
-use Rattle.transfer_flow.specs.Masks.{Joins}
+use Rattle.zone_network.specs.Masks.{AddsNumber}
+use Rattle.zone_network.specs.Network.{NetworkParts, IsShape, link_count, links_of}
+use Rattle.zone_network.proofs.MaskLemmas.{inside_zero}
 use Rattle.transfer_flow.specs.Flow.{FlowParts}
-use Rattle.transfer_flow.specs.Reach.{room_ahead, room_back}
-use Rattle.transfer_flow.specs.Spread.{SpreadsBefore, SpreadsAfter}
+use Rattle.transfer_flow.specs.Reach.{room, way, start_of, end_of, IsReachTo, IsReachFrom}
+use Rattle.transfer_flow.specs.Draw.{IsEntered}
+use Rattle.transfer_flow.specs.Spread.{IsPassed, Spreads}
+use Rattle.transfer_flow.proofs.WayLemmas.{end_among}
+use Rattle.transfer_flow.proofs.DrawLemmas.{entered-grown, entered-listed, marked-grown}
 
--- one link more, forward and then backward
-pub spreads-more_before : (n : NetworkParts) (f : FlowParts) (mask wider first second link : ℕ) (ahead_open back_open : Bool)
-    → IsShape n.shape
-    → link < link_count n.shape
-    → (ahead_open ≡ true → 0 < room_ahead n f link)
-    → (0 < room_ahead n f link → ahead_open ≡ true)
-    → (back_open ≡ true → 0 < room_back n f link)
-    → (0 < room_back n f link → back_open ≡ true)
-    → SpreadsBefore n f mask wider link
-    → Joins wider ahead_open (to_zone n.shape link) (from_zone n.shape link) first
-    → Joins first back_open (from_zone n.shape link) (to_zone n.shape link) second
-    → SpreadsBefore n f mask second (link + 1)
-spreads-more_before n f mask wider first second link ahead_open back_open valid below opens opens' opens_back opens_back' so_far a b =
-    let ends : IsLinkAmong n.shape.zones (link_at n.shape link) = link_among n.shape link valid below in
+-- how far the walk from a zone has come: it went along the first so many of its links
+pub record SpreadsSoFar (n : NetworkParts) (f : FlowParts) (towards : Bool) (zone before after upto : ℕ) : Type 0 where
+  pub spreads : Spreads n f towards before after
+  pub entered : (k : ℕ) → k < upto → IsEntered n f towards after zone (get_or (links_of n.shape zone) k 0)
+
+passed-grown : (n : NetworkParts) (f : FlowParts) (towards : Bool) (before after z : ℕ)
+    → ((w : ℕ) → IsTrue (inside before w) → IsTrue (inside after w))
+    → IsPassed n f towards before z
+    → IsPassed n f towards after z
+passed-grown n f towards before after z grown h =
+    record { links = λ l below. entered-grown n f towards before after z l grown (h.links l below) }
+
+-- nothing new was seen
+pub spreads-none : (n : NetworkParts) (f : FlowParts) (towards : Bool) (seen : ℕ)
+    → seen < 2 ^ n.shape.zones
+    → Spreads n f towards seen seen
+spreads-none n f towards seen among =
     record {
-      among = b.among n.shape.zones (a.among n.shape.zones so_far.among ends.start) ends.end;
-      above = omega (arith, so_far.above, a.above, b.above);
-      grown = λ z h. b.grown z (a.grown z (so_far.grown z h));
-      forward =
-          λ l less room at.
-          elim (cases_eq l link) [
-            | inl here ↦
-                let room' : 0 < room_ahead n f link = subst (λ (k : ℕ). 0 < room_ahead n f k) here room in
-                let at' : IsTrue (inside mask (to_zone n.shape link)) = subst (λ (k : ℕ). IsTrue (inside mask (to_zone n.shape k))) here at in
-                subst (λ (k : ℕ). IsTrue (inside second (from_zone n.shape k))) (sym here)
-                (b.grown (from_zone n.shape link) (a.joins (opens' room') (so_far.grown (to_zone n.shape link) at')))
-            | inr other ↦
-                b.grown (from_zone n.shape l) (a.grown (from_zone n.shape l) (so_far.forward l (omega arith) room at))
+      among = among;
+      above = omega arith;
+      grown = λ z h. h;
+      passed = λ z h. inl h;
+      least = λ zones closed start z h. start z h;
+    }
+
+-- one walk after another
+pub spreads-then : (n : NetworkParts) (f : FlowParts) (towards : Bool) (before between after : ℕ)
+    → Spreads n f towards before between
+    → Spreads n f towards between after
+    → Spreads n f towards before after
+spreads-then n f towards before between after a b =
+    record {
+      among = b.among;
+      above = omega (arith, a.above, b.above);
+      grown = λ z h. b.grown z (a.grown z h);
+      passed =
+          λ z h.
+          elim (b.passed z h) [
+            | inl earlier ↦
+                elim (a.passed z earlier) [
+                  | inl first ↦ inl first
+                  | inr passed ↦ inr (passed-grown n f towards between after z b.grown passed)
+                ]
+            | inr passed ↦ inr passed
           ];
-      backward =
-          λ l less room at.
-          elim (cases_eq l link) [
-            | inl here ↦
-                let room' : 0 < room_back n f link = subst (λ (k : ℕ). 0 < room_back n f k) here room in
-                let at' : IsTrue (inside mask (from_zone n.shape link)) = subst (λ (k : ℕ). IsTrue (inside mask (from_zone n.shape k))) here at in
-                subst (λ (k : ℕ). IsTrue (inside second (to_zone n.shape k))) (sym here)
-                (b.joins (opens_back' room') (a.grown (from_zone n.shape link) (so_far.grown (from_zone n.shape link) at')))
+      least = λ zones closed start z h. b.least zones closed (a.least zones closed start) z h;
+    }
+
+pub spreads-more : (n : NetworkParts) (f : FlowParts) (towards : Bool) (zone before between after upto : ℕ)
+    → SpreadsSoFar n f towards zone before between upto
+    → Spreads n f towards between after
+    → IsEntered n f towards after zone (get_or (links_of n.shape zone) upto 0)
+    → SpreadsSoFar n f towards zone before after (upto + 1)
+spreads-more n f towards zone before between after upto a b entered =
+    record {
+      spreads = spreads-then n f towards before between after a.spreads b;
+      entered =
+          λ k below.
+          elim (cases_eq k upto) [
+            | inl here ↦ subst (λ (i : ℕ). IsEntered n f towards after zone (get_or (links_of n.shape zone) i 0)) (sym here) entered
             | inr other ↦
-                b.grown (to_zone n.shape l) (a.grown (to_zone n.shape l) (so_far.backward l (omega arith) room at))
-          ];
-      least =
-          λ zones closed start z h.
-          let before : (w : ℕ) → IsTrue (inside wider w) → IsTrue (zones w) = so_far.least zones closed start in
-          let between : (w : ℕ) → IsTrue (inside first w) → IsTrue (zones w) =
-          λ w h'.
-          elim (a.only w h') [
-            | inl earlier ↦ before w earlier
-            | inr new ↦
-                subst (λ (x : ℕ). IsTrue (zones x)) (sym new.0)
-                (closed.forward link below (opens new.1) (before (to_zone n.shape link) new.2))
-          ] in
-          elim (b.only z h) [
-            | inl earlier ↦ between z earlier
-            | inr new ↦
-                subst (λ (x : ℕ). IsTrue (zones x)) (sym new.0)
-                (closed.backward link below (opens_back new.1) (between (from_zone n.shape link) new.2))
+                entered-grown n f towards between after zone (get_or (links_of n.shape zone) k 0) b.grown (a.entered k (omega arith))
           ];
     }
 
--- one link more, forward and then backward
-pub spreads-more_after : (n : NetworkParts) (f : FlowParts) (mask wider first second link : ℕ) (ahead_open back_open : Bool)
-    → IsShape n.shape
+-- at the zone's last link
+pub spreads-own : (n : NetworkParts) (f : FlowParts) (towards : Bool) (zone before after upto : ℕ)
+    → SpreadsSoFar n f towards zone before after upto
+    → length (links_of n.shape zone) ≤ upto
+    → IsPassed n f towards after zone
+spreads-own n f towards zone before after upto h all =
+    record { links = λ l below. entered-listed n f towards after zone l (λ k less. h.entered k (omega arith)) below }
+
+-- a walk along a link with room from a zone that was seen
+pub spreads-along : (n : NetworkParts) (f : FlowParts) (towards : Bool) (link : ℕ) (forward : Bool) (seen marked after : ℕ)
     → link < link_count n.shape
-    → (ahead_open ≡ true → 0 < room_ahead n f link)
-    → (0 < room_ahead n f link → ahead_open ≡ true)
-    → (back_open ≡ true → 0 < room_back n f link)
-    → (0 < room_back n f link → back_open ≡ true)
-    → SpreadsAfter n f mask wider link
-    → Joins wider ahead_open (from_zone n.shape link) (to_zone n.shape link) first
-    → Joins first back_open (to_zone n.shape link) (from_zone n.shape link) second
-    → SpreadsAfter n f mask second (link + 1)
-spreads-more_after n f mask wider first second link ahead_open back_open valid below opens opens' opens_back opens_back' so_far a b =
-    let ends : IsLinkAmong n.shape.zones (link_at n.shape link) = link_among n.shape link valid below in
+    → IsTrue (inside seen (end_of n.shape link forward))
+    → 0 < room n f link (way towards forward)
+    → AddsNumber seen (start_of n.shape link forward) marked
+    → Spreads n f towards marked after
+    → IsPassed n f towards after (start_of n.shape link forward)
+    → Spreads n f towards seen after
+spreads-along n f towards link forward seen marked after below there room' adds spreads own =
     record {
-      among = b.among n.shape.zones (a.among n.shape.zones so_far.among ends.end) ends.start;
-      above = omega (arith, so_far.above, a.above, b.above);
-      grown = λ z h. b.grown z (a.grown z (so_far.grown z h));
-      forward =
-          λ l less room at.
-          elim (cases_eq l link) [
-            | inl here ↦
-                let room' : 0 < room_ahead n f link = subst (λ (k : ℕ). 0 < room_ahead n f k) here room in
-                let at' : IsTrue (inside mask (from_zone n.shape link)) = subst (λ (k : ℕ). IsTrue (inside mask (from_zone n.shape k))) here at in
-                subst (λ (k : ℕ). IsTrue (inside second (to_zone n.shape k))) (sym here)
-                (b.grown (to_zone n.shape link) (a.joins (opens' room') (so_far.grown (from_zone n.shape link) at')))
-            | inr other ↦
-                b.grown (to_zone n.shape l) (a.grown (to_zone n.shape l) (so_far.forward l (omega arith) room at))
-          ];
-      backward =
-          λ l less room at.
-          elim (cases_eq l link) [
-            | inl here ↦
-                let room' : 0 < room_back n f link = subst (λ (k : ℕ). 0 < room_back n f k) here room in
-                let at' : IsTrue (inside mask (to_zone n.shape link)) = subst (λ (k : ℕ). IsTrue (inside mask (to_zone n.shape k))) here at in
-                subst (λ (k : ℕ). IsTrue (inside second (from_zone n.shape k))) (sym here)
-                (b.joins (opens_back' room') (a.grown (to_zone n.shape link) (so_far.grown (to_zone n.shape link) at')))
-            | inr other ↦
-                b.grown (from_zone n.shape l) (a.grown (from_zone n.shape l) (so_far.backward l (omega arith) room at))
+      among = spreads.among;
+      above = omega (arith, adds.above, spreads.above);
+      grown = λ z h. spreads.grown z (marked-grown seen (start_of n.shape link forward) marked adds z h);
+      passed =
+          λ z h.
+          elim (spreads.passed z h) [
+            | inl earlier ↦
+                elim (cases_eq z (start_of n.shape link forward)) [
+                  | inl here ↦ inr (subst (λ (w : ℕ). IsPassed n f towards after w) (sym here) own)
+                  | inr apart ↦ inl (sym (adds.others z apart) ∙ earlier)
+                ]
+            | inr passed ↦ inr passed
           ];
       least =
           λ zones closed start z h.
-          let before : (w : ℕ) → IsTrue (inside wider w) → IsTrue (zones w) = so_far.least zones closed start in
-          let between : (w : ℕ) → IsTrue (inside first w) → IsTrue (zones w) =
-          λ w h'.
-          elim (a.only w h') [
-            | inl earlier ↦ before w earlier
-            | inr new ↦
-                subst (λ (x : ℕ). IsTrue (zones x)) (sym new.0)
-                (closed.forward link below (opens new.1) (before (from_zone n.shape link) new.2))
-          ] in
-          elim (b.only z h) [
-            | inl earlier ↦ between z earlier
-            | inr new ↦
-                subst (λ (x : ℕ). IsTrue (zones x)) (sym new.0)
-                (closed.backward link below (opens_back new.1) (between (to_zone n.shape link) new.2))
+          spreads.least zones closed
+          (λ w h'.
+          elim (cases_eq w (start_of n.shape link forward)) [
+            | inl here ↦
+                subst (λ (x : ℕ). IsTrue (zones x)) (sym here)
+                (closed.through link forward below room' (start (end_of n.shape link forward) there))
+            | inr apart ↦ start w (sym (adds.others w apart) ∙ h')
+          ])
+          z h;
+    }
+
+-- how far the walks from a mask have come: they went on from those of its zones that are below this number
+pub record SpreadsFrom (n : NetworkParts) (f : FlowParts) (start mask upto : ℕ) : Type 0 where
+  pub spreads : Spreads n f false start mask
+  pub passed : (z : ℕ) → z < upto → IsTrue (inside start z) → IsPassed n f false mask z
+
+-- a walk from one zone more
+pub spreads-zone : (n : NetworkParts) (f : FlowParts) (start between after zone : ℕ)
+    → SpreadsFrom n f start between zone
+    → Spreads n f false between after
+    → IsPassed n f false after zone
+    → SpreadsFrom n f start after (zone + 1)
+spreads-zone n f start between after zone before spreads own =
+    record {
+      spreads = spreads-then n f false start between after before.spreads spreads;
+      passed =
+          λ z below h.
+          elim (cases_eq z zone) [
+            | inl here ↦ subst (λ (w : ℕ). IsPassed n f false after w) (sym here) own
+            | inr other ↦ passed-grown n f false between after z spreads.grown (before.passed z (omega arith) h)
           ];
+    }
+
+-- a zone that the mask doesn't hold is passed over
+pub spreads-past : (n : NetworkParts) (f : FlowParts) (start mask zone : ℕ)
+    → SpreadsFrom n f start mask zone
+    → inside start zone ≡ false
+    → SpreadsFrom n f start mask (zone + 1)
+spreads-past n f start mask zone before outside =
+    record {
+      spreads = before.spreads;
+      passed =
+          λ z below h.
+          elim (cases_eq z zone) [
+            | inl here ↦ absurd (false≢true (sym outside ∙ subst (λ (w : ℕ). IsTrue (inside start w)) here h))
+            | inr other ↦ before.passed z (omega arith) h
+          ];
+    }
+
+-- a walk from every zone of a mask
+pub spreads-all : (n : NetworkParts) (f : FlowParts) (start after : ℕ)
+    → IsShape n.shape
+    → SpreadsFrom n f start after n.shape.zones
+    → IsReachFrom n f start after
+spreads-all n f start after valid h =
+    let passed : (w : ℕ) → w < n.shape.zones → IsTrue (inside after w) → IsPassed n f false after w =
+    λ w below at.
+    elim (h.spreads.passed w at) [
+      | inl earlier ↦ h.passed w below earlier
+      | inr found ↦ found
+    ] in
+    record {
+      among = h.spreads.among;
+      itself = h.spreads.grown;
+      closed =
+          record {
+            through =
+                λ l forward below room' at.
+                ((passed (end_of n.shape l forward) (end_among n.shape l forward valid below) at).links l below).ways forward refl room';
+          };
+      least = h.spreads.least;
+    }
+
+-- a walk from the goal alone
+pub spreads-goal : (n : NetworkParts) (f : FlowParts) (goal seen after : ℕ)
+    → AddsNumber 0 goal seen
+    → Spreads n f true seen after
+    → IsPassed n f true after goal
+    → IsReachTo n f goal after
+spreads-goal n f goal seen after adds spreads own =
+    let first : (w : ℕ) → IsTrue (inside seen w) → w ≡ goal =
+    λ w h.
+    elim (cases_eq w goal) [
+      | inl here ↦ here
+      | inr apart ↦ absurd (false≢true (sym (inside_zero w) ∙ sym (adds.others w apart) ∙ h))
+    ] in
+    let passed : (w : ℕ) → IsTrue (inside after w) → IsPassed n f true after w =
+    λ w h.
+    elim (spreads.passed w h) [
+      | inl earlier ↦ subst (λ (x : ℕ). IsPassed n f true after x) (sym (first w earlier)) own
+      | inr found ↦ found
+    ] in
+    record {
+      among = spreads.among;
+      itself = spreads.grown goal adds.itself;
+      closed =
+          record {
+            through = λ l forward below room' at. ((passed (end_of n.shape l forward) at).links l below).ways forward refl room';
+          };
+      least =
+          λ z h zones closed there.
+          spreads.least zones closed (λ w h'. subst (λ (x : ℕ). IsTrue (zones x)) (sym (first w h')) there) z h;
     }

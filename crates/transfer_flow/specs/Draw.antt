@@ -1,18 +1,23 @@
-use Rattle.std.specs.Prelude.{◌≡◌, ◌≢◌, ℕ, ◌+◌, ◌-◌, ◌<◌, ◌≤◌, ◌^◌, ◌⊎◌, IsTrue}
+-- what a search for spare amounts needs, and what it has done
+use Rattle.std.specs.Prelude.{◌≡◌, ◌≢◌, ℕ, ◌+◌, ◌-◌, ◌*◌, ◌<◌, ◌≤◌, ◌^◌, ◌⊎◌, IsTrue, Bool, true, not}
+use Rattle.ra_base.specs.declared.limits.TheConstants.{MOST_LINK_MW}
 use Rattle.zone_network.specs.Sums.{inside}
-use Rattle.zone_network.specs.Network.{NetworkParts, link_count, from_zone, to_zone, ahead, back}
-use Rattle.transfer_flow.specs.Flow.{FlowParts, flow_at, spare_at, IsWithinLimits, Moves}
-use Rattle.transfer_flow.specs.Reach.{room_ahead, room_back}
+use Rattle.zone_network.specs.Network.{NetworkParts, link_count, from_zone, to_zone}
+use Rattle.transfer_flow.specs.Flow.{FlowParts, flow_at, spare_at, carried, IsWithinLimits, Moves}
+use Rattle.transfer_flow.specs.Reach.{room, way, start_of, end_of}
 
--- a link with room towards this zone comes from a zone that was seen
-pub record IsEntered (n : NetworkParts) (f : FlowParts) (seen z l : ℕ) : Type 0 where
-  pub forward : to_zone n.shape l ≡ z → 0 < room_ahead n f l → IsTrue (inside seen (from_zone n.shape l))
-  pub backward : from_zone n.shape l ≡ z → 0 < room_back n f l → IsTrue (inside seen (to_zone n.shape l))
+-- where a link has room towards this zone, or away from it, its other zone was seen
+pub record IsEntered (n : NetworkParts) (f : FlowParts) (towards : Bool) (seen z l : ℕ) : Type 0 where
+  pub ways :
+      (forward : Bool)
+      → end_of n.shape l forward ≡ z
+      → 0 < room n f l (way towards forward)
+      → IsTrue (inside seen (start_of n.shape l forward))
 
 -- a zone has nothing to give, and is entered from zones that were seen alone
 pub record IsDry (n : NetworkParts) (f : FlowParts) (seen z : ℕ) : Type 0 where
   pub spare : spare_at f z ≡ 0
-  pub links : (l : ℕ) → l < link_count n.shape → IsEntered n f seen z l
+  pub links : (l : ℕ) → l < link_count n.shape → IsEntered n f true seen z l
 
 -- what stands before zones that weren't seen are searched for what a zone asks
 pub record CanDraw (n : NetworkParts) (f : FlowParts) (zone seen asked : ℕ) : Type 0 where
@@ -41,25 +46,19 @@ pub record Draws (n : NetworkParts) (old new : FlowParts) (zone before after ask
   pub still : drawn ≡ 0 → new ≡ old
   pub dry : drawn ≡ 0 → (z : ℕ) → IsTrue (inside after z) → IsTrue (inside before z) ⊎ IsDry n old after z
 
--- the flow of one link rose
-pub record Raises (old new : FlowParts) (link by : ℕ) : Type 0 where
+-- a link carries so much more one way
+pub record Carries (old new : FlowParts) (link : ℕ) (forward : Bool) (by : ℕ) : Type 0 where
   pub shape : new.shape ≡ old.shape
   pub spares : new.spares ≡ old.spares
-  pub forward : ahead (flow_at new link) ≡ ahead (flow_at old link) + (by - back (flow_at old link))
-  pub backward : back (flow_at new link) ≡ back (flow_at old link) - by
-  pub others : (l : ℕ) → l ≢ link → flow_at new l ≡ flow_at old l
-
--- the flow of one link fell
-pub record Lowers (old new : FlowParts) (link by : ℕ) : Type 0 where
-  pub shape : new.shape ≡ old.shape
-  pub spares : new.spares ≡ old.spares
-  pub forward : ahead (flow_at new link) ≡ ahead (flow_at old link) - by
-  pub backward : back (flow_at new link) ≡ back (flow_at old link) + (by - ahead (flow_at old link))
+  pub along :
+      carried (flow_at new link) forward
+      ≡ carried (flow_at old link) forward + (by - carried (flow_at old link) (not forward))
+  pub against : carried (flow_at new link) (not forward) ≡ carried (flow_at old link) (not forward) - by
   pub others : (l : ℕ) → l ≢ link → flow_at new l ≡ flow_at old l
 
 -- the flow of a link is small enough to be moved
-pub record IsMovable (f : FlowParts) (link by : ℕ) : Type 0 where
+pub record IsMovable (f : FlowParts) (link : ℕ) (forward : Bool) (by : ℕ) : Type 0 where
   pub place : link < link_count f.shape
-  pub forward : ahead (flow_at f link) ≤ 1000000
-  pub backward : back (flow_at f link) ≤ 1000000
-  pub amount : by ≤ 2000000
+  pub along : carried (flow_at f link) forward ≤ MOST_LINK_MW
+  pub against : carried (flow_at f link) (not forward) ≤ MOST_LINK_MW
+  pub amount : by ≤ 2 * MOST_LINK_MW

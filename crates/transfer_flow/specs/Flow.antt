@@ -1,5 +1,6 @@
-use Rattle.std.specs.Prelude.{◌≡◌, ◌≢◌, ℕ, ℤ, pos, ◌+◌, ◌<◌, ◌≤◌, List, length, replicate, slice_index, slice_index_or}
-use Rattle.zone_network.specs.Network.{ShapeParts, NetworkParts, IsShape, link_count, ahead, back, inflow, outflow, forward_at, backward_at}
+-- flows by link and spare amounts by zone, and what moves
+use Rattle.std.specs.Prelude.{◌≡◌, ◌≢◌, ℕ, ℤ, pos, ◌+◌, ◌<◌, ◌≤◌, Bool, if◌then◌else◌, List, length, replicate, slice_index, slice_index_or}
+use Rattle.zone_network.specs.Network.{ShapeParts, NetworkParts, IsShape, link_count, forward_of, backward_of, inflow, outflow, forward_at, backward_at}
 
 -- a signed flow for each link, forward being positive, and for each zone an amount that it still has to give
 pub record FlowParts : Type 0 where
@@ -24,10 +25,17 @@ flow_at f l = slice_index_or f.flows l (pos 0)
 abbrev pub spare_at : FlowParts → ℕ → ℕ
 spare_at f z = slice_index f.spares z
 
--- each flow is within its link's limits
+-- what a signed flow carries one way: forward or backward
+abbrev pub carried : ℤ → Bool → ℕ
+carried flow forward = if forward then forward_of flow else backward_of flow
+
+-- a link's limit one way
+abbrev pub limit_at : NetworkParts → ℕ → Bool → ℕ
+limit_at n l forward = if forward then forward_at n l else backward_at n l
+
+-- each flow is within its link's limits, each way
 pub record IsWithinLimits (n : NetworkParts) (f : FlowParts) : Type 0 where
-  pub forward : (l : ℕ) → l < link_count n.shape → ahead (flow_at f l) ≤ forward_at n l
-  pub backward : (l : ℕ) → l < link_count n.shape → back (flow_at f l) ≤ backward_at n l
+  pub ways : (l : ℕ) (forward : Bool) → l < link_count n.shape → carried (flow_at f l) forward ≤ limit_at n l forward
 
 -- in each zone but the goal the net outflow rose by just what its spare fell, and in the goal the net inflow rose
 -- by the amount moved less what its own spare gave; no spare rose

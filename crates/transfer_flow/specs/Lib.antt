@@ -1,4 +1,3 @@
-pub mod Masks
 pub mod Flow
 pub mod Reach
 pub mod Draw

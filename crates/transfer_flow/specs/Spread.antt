@@ -1,57 +1,32 @@
-use Rattle.std.specs.Prelude.{ℕ, ◌<◌, ◌≤◌, ◌^◌, IsTrue}
+-- what a walk along links with room has seen
+use Rattle.std.specs.Prelude.{◌≡◌, ℕ, ◌<◌, ◌≤◌, ◌^◌, ◌⊎◌, IsTrue, Bool}
 use Rattle.zone_network.specs.Sums.{NumberSet, inside}
-use Rattle.zone_network.specs.Network.{NetworkParts, from_zone, to_zone}
-use Rattle.transfer_flow.specs.Flow.{FlowParts}
-use Rattle.transfer_flow.specs.Reach.{room_ahead, room_back, IsClosedBefore, IsClosedAfter}
+use Rattle.zone_network.specs.Network.{NetworkParts, link_count}
+use Rattle.transfer_flow.specs.Flow.{FlowParts, IsWithinLimits}
+use Rattle.transfer_flow.specs.Reach.{IsClosed}
+use Rattle.transfer_flow.specs.Draw.{IsEntered}
 
--- a mask grew by zones that reach it; of the links below this number none with room leads into it from outside the
--- grown one
-pub record SpreadsBefore (n : NetworkParts) (f : FlowParts) (mask wider upto : ℕ) : Type 0 where
-  pub among : wider < 2 ^ n.shape.zones
-  pub above : mask ≤ wider
-  pub grown : (z : ℕ) → IsTrue (inside mask z) → IsTrue (inside wider z)
-  pub forward :
-      (l : ℕ)
-      → l < upto
-      → 0 < room_ahead n f l
-      → IsTrue (inside mask (to_zone n.shape l))
-      → IsTrue (inside wider (from_zone n.shape l))
-  pub backward :
-      (l : ℕ)
-      → l < upto
-      → 0 < room_back n f l
-      → IsTrue (inside mask (from_zone n.shape l))
-      → IsTrue (inside wider (to_zone n.shape l))
+-- every link with room leads to a zone, or from it, from zones that were seen alone
+pub record IsPassed (n : NetworkParts) (f : FlowParts) (towards : Bool) (seen z : ℕ) : Type 0 where
+  pub links : (l : ℕ) → l < link_count n.shape → IsEntered n f towards seen z l
+
+-- what was seen grew by zones that such sets hold anyway, and each zone that is new was passed
+pub record Spreads (n : NetworkParts) (f : FlowParts) (towards : Bool) (before after : ℕ) : Type 0 where
+  pub among : after < 2 ^ n.shape.zones
+  pub above : before ≤ after
+  pub grown : (z : ℕ) → IsTrue (inside before z) → IsTrue (inside after z)
+  pub passed : (z : ℕ) → IsTrue (inside after z) → IsTrue (inside before z) ⊎ IsPassed n f towards after z
   pub least :
       (zones : NumberSet)
-      → IsClosedBefore n f zones
-      → ((z : ℕ) → IsTrue (inside mask z) → IsTrue (zones z))
+      → IsClosed n f towards zones
+      → ((z : ℕ) → IsTrue (inside before z) → IsTrue (zones z))
       → (z : ℕ)
-      → IsTrue (inside wider z)
+      → IsTrue (inside after z)
       → IsTrue (zones z)
 
--- a mask grew by zones that it reaches; of the links below this number none with room leads out of it to outside
--- the grown one
-pub record SpreadsAfter (n : NetworkParts) (f : FlowParts) (mask wider upto : ℕ) : Type 0 where
-  pub among : wider < 2 ^ n.shape.zones
-  pub above : mask ≤ wider
-  pub grown : (z : ℕ) → IsTrue (inside mask z) → IsTrue (inside wider z)
-  pub forward :
-      (l : ℕ)
-      → l < upto
-      → 0 < room_ahead n f l
-      → IsTrue (inside mask (from_zone n.shape l))
-      → IsTrue (inside wider (to_zone n.shape l))
-  pub backward :
-      (l : ℕ)
-      → l < upto
-      → 0 < room_back n f l
-      → IsTrue (inside mask (to_zone n.shape l))
-      → IsTrue (inside wider (from_zone n.shape l))
-  pub least :
-      (zones : NumberSet)
-      → IsClosedAfter n f zones
-      → ((z : ℕ) → IsTrue (inside mask z) → IsTrue (zones z))
-      → (z : ℕ)
-      → IsTrue (inside wider z)
-      → IsTrue (zones z)
+-- what stands before a walk goes on from a zone
+pub record CanSpread (n : NetworkParts) (f : FlowParts) (zone seen : ℕ) : Type 0 where
+  pub shape : f.shape ≡ n.shape
+  pub limits : IsWithinLimits n f
+  pub zone_seen : IsTrue (inside seen zone)
+  pub among : seen < 2 ^ n.shape.zones

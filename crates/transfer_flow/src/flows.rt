@@ -1,10 +1,11 @@
-ghost use Rattle.std.specs.Prelude.{◌≡◌, ◌+◌, ◌-◌, ◌<◌, ◌≤◌, IfOk, slice_set, min};
+ghost use Rattle.std.specs.Prelude.{◌≡◌, ◌+◌, ◌-◌, ◌*◌, ◌<◌, ◌≤◌, IfOk, slice_set, min};
+ghost use Rattle.ra_base.specs.declared.limits.TheConstants.{MOST_LINK_MW};
 ghost use Rattle.zone_network.specs.Network.{ShapeParts, NetworkParts, link_count};
 ghost use Rattle.transfer_flow.specs.Flow.{FlowParts, IsFlow, IsWithinLimits, no_flow, flow_at, spare_at};
-ghost use Rattle.transfer_flow.specs.Reach.{room_ahead, room_back};
-ghost use Rattle.transfer_flow.specs.Draw.{Raises, Lowers, IsMovable};
+ghost use Rattle.transfer_flow.specs.Reach.{room};
+ghost use Rattle.transfer_flow.specs.Draw.{Carries, IsMovable};
 
-use crate::signed::{lowered, raised, room_above, room_below};
+use crate::signed::{carrying, room_below};
 use ra_base::OutOfMemory;
 use std::alloc::Global;
 use std::marker::Model;
@@ -78,46 +79,30 @@ impl Flow {
         self.flows[link as usize]
     }
 
-    /// How much more a link can carry forward.
+    /// How much more a link can carry one way.
     #[inline]
-    pub(crate) fn room_ahead(&self, net: &Network, link: u32) -> u32
+    pub(crate) fn room(&self, net: &Network, link: u32, forward: bool) -> u32
         requires shape { self.now.shape ≡ net.now.shape }
         requires limits { IsWithinLimits net.now self.now }
         requires link { link < link_count net.now.shape }
-        ensures value { result ≡ room_ahead net.now self.now link }
-        ensures most { result ≤ 2000000 }
+        ensures value { result ≡ room net.now self.now link forward }
+        ensures most { result ≤ 2 * MOST_LINK_MW }
     {
-        room_above(self.flow(link), net.forward(link))
+        let limit = if forward {
+            net.forward(link)
+        } else {
+            net.backward(link)
+        };
+        room_below(self.flow(link), limit, forward)
     }
 
-    /// How much more a link can carry backward.
+    /// Lets a link carry more one way.
     #[inline]
-    pub(crate) fn room_back(&self, net: &Network, link: u32) -> u32
-        requires shape { self.now.shape ≡ net.now.shape }
-        requires limits { IsWithinLimits net.now self.now }
-        requires link { link < link_count net.now.shape }
-        ensures value { result ≡ room_back net.now self.now link }
-        ensures most { result ≤ 2000000 }
+    pub(crate) fn carry(&mut self, link: u32, forward: bool, by: u32)
+        requires { IsMovable self.old link forward by }
+        ensures { Carries self.old self.new link forward by }
     {
-        room_below(self.flow(link), net.backward(link))
-    }
-
-    /// Lets a link carry more forward.
-    #[inline]
-    pub(crate) fn raise(&mut self, link: u32, by: u32)
-        requires { IsMovable self.old link by }
-        ensures { Raises self.old self.new link by }
-    {
-        self.flows[link as usize] = raised(self.flows[link as usize], by);
-    }
-
-    /// Lets a link carry more backward.
-    #[inline]
-    pub(crate) fn lower(&mut self, link: u32, by: u32)
-        requires { IsMovable self.old link by }
-        ensures { Lowers self.old self.new link by }
-    {
-        self.flows[link as usize] = lowered(self.flows[link as usize], by);
+        self.flows[link as usize] = carrying(self.flows[link as usize], by, forward);
     }
 
     /// Takes from what a zone has to give, as much as is asked or is there.

@@ -5,12 +5,13 @@
 #![tactic(auto)]
 
 mod flows;
-mod masks;
 mod pulls;
 mod reaches;
 mod signed;
+mod ways;
 
 pub use flows::Flow;
+pub use pulls::Pull;
 
 #[cfg(test)]
 #[tactic(auto, using(crate::proofs::Laws::no_flow_within))]

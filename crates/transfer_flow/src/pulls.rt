@@ -1,13 +1,23 @@
-ghost use Rattle.std.specs.Prelude.{◌≡◌, ℕ, ◌+◌, ◌-◌, ◌<◌, ◌≤◌, ◌^◌, ◌*◌, IsTrue};
+ghost use Rattle.std.specs.Prelude.{◌≡◌, ℕ, ◌+◌, ◌-◌, ◌<◌, ◌≤◌, ◌^◌, ◌*◌, ◌⊎◌, IsTrue, true};
 ghost use Rattle.zone_network.specs.Sums.{inside};
-ghost use Rattle.zone_network.specs.Network.{link_count, from_zone, to_zone};
+ghost use Rattle.zone_network.specs.Network.{link_count};
 ghost use Rattle.transfer_flow.specs.Flow.{IsWithinLimits, Moves, spare_at};
-ghost use Rattle.transfer_flow.specs.Reach.{Reaches};
+ghost use Rattle.transfer_flow.specs.Reach.{Reaches, IsUsedUp, start_of, end_of};
 ghost use Rattle.transfer_flow.specs.Draw.{CanDraw, Draws, IsDry, IsEntered};
 
 use crate::flows::Flow;
-use crate::masks::{is_inside, with_zone};
-use zone_network::Network;
+use crate::ways::start_of;
+use zone_network::{Network, has_zone, with_zone};
+
+/// How a pull ended.
+#[derive(Clone, Copy, Debug, PartialEq, Eq)]
+pub struct Pull {
+    /// How much came, in MW.
+    pub moved: u32,
+    /// Where less came than was asked, the mask of the zones that could have given it: none has a spare,
+    /// and no link with room enters them. Else 0.
+    pub searched: u32,
+}
 
 impl Flow {
     /// Moves up to `most` MW to a zone, from its own spare and along links with room from the spares of
@@ -22,17 +32,37 @@ impl Flow {
         ensures most { result ≤ most }
         ensures short { result < most → (z : ℕ) → Reaches net.now self.new z goal → spare_at self.new z ≡ 0 }
     {
+        self.pull_or_search(net, goal, most).moved
+    }
+
+    /// The same, with the zones that were searched in vain where it falls short. The goal's own spare is
+    /// taken first.
+    pub fn pull_or_search(&mut self, net: &Network, goal: u8, most: u32) -> Pull
+        requires shape { self.old.shape ≡ net.now.shape }
+        requires limits { IsWithinLimits net.now self.old }
+        requires goal { goal < net.now.shape.zones }
+        ensures shape { self.new.shape ≡ net.now.shape }
+        ensures limits { IsWithinLimits net.now self.new }
+        ensures moves { Moves net.now.shape self.old self.new goal result.moved }
+        ensures most { result.moved ≤ most }
+        ensures own { spare_at self.new goal ≡ 0 ⊎ (spare_at self.new goal + most ≤ spare_at self.old goal) }
+        ensures short { result.moved < most → IsUsedUp net.now self.new goal result.searched }
+        ensures enough { result.moved ≡ most → result.searched ≡ 0 }
+    {
         prove!(goal < net.zones());
-        let mut moved = 0;
+        let mut moved = self.take_spare(goal, most);
         while moved < most {
             let mut seen = with_zone(0, goal);
             let more = self.draw(net, goal, most - moved, &mut seen);
             if more == 0 {
-                break;
+                return Pull {
+                    moved,
+                    searched: seen,
+                };
             }
             moved += more;
         }
-        moved
+        Pull { moved, searched: 0 }
     }
 
     /// Draws up to `most` MW to a zone that is marked as seen: from its own spare, then along each link
@@ -49,67 +79,36 @@ impl Flow {
             if drawn == most {
                 break;
             }
-            drawn += self.draw_along(net, zone, *link, most - drawn, seen);
+            let forward = net.link(*link).to == zone;
+            drawn += self.draw_along(net, *link, forward, most - drawn, seen);
         }
         drawn
     }
 
-    /// Draws to a zone along one link, where the link ends there.
+    /// Draws along a link one way, from its start to its end.
     #[cycle(draws)]
-    fn draw_along(&mut self, net: &Network, zone: u8, link: u32, most: u32, seen: &mut u32) -> u32
+    fn draw_along(
+        &mut self,
+        net: &Network,
+        link: u32,
+        forward: bool,
+        most: u32,
+        seen: &mut u32,
+    ) -> u32
         requires link { link < link_count net.now.shape }
-        requires can { CanDraw net.now self.old zone seen.old most }
-        ensures draws { Draws net.now self.old self.new zone seen.old seen.new most result }
-        ensures entered { result ≡ 0 → IsEntered net.now self.old seen.new zone link }
+        requires can { CanDraw net.now self.old (end_of net.now.shape link forward) seen.old most }
+        ensures draws { Draws net.now self.old self.new (end_of net.now.shape link forward) seen.old seen.new most result }
+        ensures entered { result ≡ 0 → IsEntered net.now self.old true seen.new (end_of net.now.shape link forward) link }
     {
-        let ends = net.link(link);
-        if ends.to == zone {
-            self.draw_ahead(net, link, most, seen)
-        } else if ends.from == zone {
-            self.draw_back(net, link, most, seen)
-        } else {
-            0
-        }
-    }
-
-    /// Draws along a link from its first zone to its second.
-    #[cycle(draws)]
-    fn draw_ahead(&mut self, net: &Network, link: u32, most: u32, seen: &mut u32) -> u32
-        requires link { link < link_count net.now.shape }
-        requires can { CanDraw net.now self.old (to_zone net.now.shape link) seen.old most }
-        ensures draws { Draws net.now self.old self.new (to_zone net.now.shape link) seen.old seen.new most result }
-        ensures entered { result ≡ 0 → IsEntered net.now self.old seen.new (to_zone net.now.shape link) link }
-    {
-        let from = net.link(link).from;
-        let room = self.room_ahead(net, link);
-        if room == 0 || is_inside(*seen, from) {
+        let start = start_of(net, link, forward);
+        let room = self.room(net, link, forward);
+        if room == 0 || has_zone(*seen, start) {
             return 0;
         }
-        *seen = with_zone(*seen, from);
-        let drawn = self.draw(net, from, most.min(room), seen);
+        *seen = with_zone(*seen, start);
+        let drawn = self.draw(net, start, most.min(room), seen);
         if drawn > 0 {
-            self.raise(link, drawn);
-        }
-        drawn
-    }
-
-    /// Draws along a link from its second zone to its first.
-    #[cycle(draws)]
-    fn draw_back(&mut self, net: &Network, link: u32, most: u32, seen: &mut u32) -> u32
-        requires link { link < link_count net.now.shape }
-        requires can { CanDraw net.now self.old (from_zone net.now.shape link) seen.old most }
-        ensures draws { Draws net.now self.old self.new (from_zone net.now.shape link) seen.old seen.new most result }
-        ensures entered { result ≡ 0 → IsEntered net.now self.old seen.new (from_zone net.now.shape link) link }
-    {
-        let to = net.link(link).to;
-        let room = self.room_back(net, link);
-        if room == 0 || is_inside(*seen, to) {
-            return 0;
-        }
-        *seen = with_zone(*seen, to);
-        let drawn = self.draw(net, to, most.min(room), seen);
-        if drawn > 0 {
-            self.lower(link, drawn);
+            self.carry(link, forward, drawn);
         }
         drawn
     }

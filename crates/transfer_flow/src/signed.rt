@@ -1,48 +1,31 @@
-ghost use Rattle.std.specs.Prelude.{◌≡◌, ◌+◌, ◌-◌, ◌≤◌};
-ghost use Rattle.zone_network.specs.Network.{ahead, back};
+ghost use Rattle.std.specs.Prelude.{◌≡◌, ◌+◌, ◌-◌, ◌*◌, ◌≤◌, not};
+ghost use Rattle.ra_base.specs.declared.limits.TheConstants.{MOST_LINK_MW};
+ghost use Rattle.transfer_flow.specs.Flow.{carried};
 
-/// How much more a signed flow can rise up to a limit forward.
+/// How much more a signed flow can carry one way, up to a limit.
 #[inline]
-pub fn room_above(flow: i32, limit: u32) -> u32
-    requires limit { limit ≤ 1000000 }
-    requires forward { ahead flow ≤ limit }
-    requires backward { back flow ≤ 1000000 }
-    ensures { result ≡ limit - ahead flow + back flow }
+pub(crate) fn room_below(flow: i32, limit: u32, forward: bool) -> u32
+    requires limit { limit ≤ MOST_LINK_MW }
+    requires along { carried flow forward ≤ limit }
+    requires against { carried flow (not forward) ≤ MOST_LINK_MW }
+    ensures { result ≡ limit - carried flow forward + carried flow (not forward) }
 {
-    (limit as i32 - flow) as u32
+    let along = if forward { flow } else { -flow };
+    (limit as i32 - along) as u32
 }
 
-/// How much a signed flow can fall down to a limit backward.
+/// The flow that carries so much more one way.
 #[inline]
-pub fn room_below(flow: i32, limit: u32) -> u32
-    requires limit { limit ≤ 1000000 }
-    requires forward { ahead flow ≤ 1000000 }
-    requires backward { back flow ≤ limit }
-    ensures { result ≡ limit - back flow + ahead flow }
+pub(crate) fn carrying(flow: i32, by: u32, forward: bool) -> i32
+    requires by { by ≤ 2 * MOST_LINK_MW }
+    requires along { carried flow forward ≤ MOST_LINK_MW }
+    requires against { carried flow (not forward) ≤ MOST_LINK_MW }
+    ensures along { carried result forward ≡ carried flow forward + (by - carried flow (not forward)) }
+    ensures against { carried result (not forward) ≡ carried flow (not forward) - by }
 {
-    (limit as i32 + flow) as u32
-}
-
-/// The flow that carries so much more forward.
-#[inline]
-pub fn raised(flow: i32, by: u32) -> i32
-    requires by { by ≤ 2000000 }
-    requires forward { ahead flow ≤ 1000000 }
-    requires backward { back flow ≤ 1000000 }
-    ensures forward { ahead result ≡ ahead flow + (by - back flow) }
-    ensures backward { back result ≡ back flow - by }
-{
-    flow + by as i32
-}
-
-/// The flow that carries so much more backward.
-#[inline]
-pub fn lowered(flow: i32, by: u32) -> i32
-    requires by { by ≤ 2000000 }
-    requires forward { ahead flow ≤ 1000000 }
-    requires backward { back flow ≤ 1000000 }
-    ensures forward { ahead result ≡ ahead flow - by }
-    ensures backward { back result ≡ back flow + (by - ahead flow) }
-{
-    flow - by as i32
+    if forward {
+        flow + by as i32
+    } else {
+        flow - by as i32
+    }
 }

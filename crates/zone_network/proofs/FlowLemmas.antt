@@ -1,10 +1,10 @@
 use Rattle.std.proofs.Common.{◌≡◌, ℕ, ℤ, ◌+◌, ◌<◌, ◌≤◌, ◌==◌, true, false, refl, ◌∙◌, arith}
 use Rattle.std.proofs.lemmas.List.Elements.{All-get_or}
 use Rattle.zone_network.specs.Sums.{NumberSet, sum_where}
-use Rattle.zone_network.specs.Network.{ShapeParts, NetworkParts, IsShape, IsLinkAmong, no_link, link_count, device_count, link_at, from_zone, to_zone, zone_of_device, ahead, back, inflow, outflow, enters_ahead, enters_back, into, over_zones, over_devices, supply_at, load_at, forward_at, backward_at, discharge_cap_at}
+use Rattle.zone_network.specs.Network.{ShapeParts, NetworkParts, IsShape, IsLinkAmong, no_link, link_count, device_count, link_at, from_zone, to_zone, zone_of_device, forward_of, backward_of, inflow, outflow, enters_forward, enters_backward, into, over_zones, over_devices, supply_at, load_at, forward_at, backward_at, discharge_cap_at}
 use Rattle.zone_network.specs.Dispatch.{Dispatch, IsFeasible, unserved_at, total_unserved}
 use Rattle.zone_network.specs.Cut.{load_of, supply_of, discharge_caps_of, IsTight}
-use Rattle.zone_network.proofs.SumLemmas.{sum_where-same, sum_where-mono, sum_where-part, sum_where-add, sum_where-regroup, sum_where-crossing, sum_where-crossing_full}
+use Rattle.zone_network.proofs.SumLemmas.{sum_where-same, sum_where-mono, sum_where-part, sum_where-add, sum_where-regroup, sum_where-crossing, sum_where-crossing_full, sum_where-crossing_forced}
 
 -- the ends of a link are zones, and differ
 pub link_among : (s : ShapeParts) (l : ℕ) → IsShape s → l < link_count s → IsLinkAmong s.zones (link_at s l)
@@ -17,18 +17,18 @@ device_among s k valid below = All-get_or (λ zone. zone < s.zones) s.device_zon
 pub inflow-regroup : (s : ShapeParts) (flow : ℕ → ℤ) (zones : NumberSet)
     → IsShape s
     → over_zones s (inflow s flow) zones
-    ≡ sum_where (λ l. zones (to_zone s l)) (λ l. ahead (flow l)) (link_count s)
-    + sum_where (λ l. zones (from_zone s l)) (λ l. back (flow l)) (link_count s)
+    ≡ sum_where (λ l. zones (to_zone s l)) (λ l. forward_of (flow l)) (link_count s)
+    + sum_where (λ l. zones (from_zone s l)) (λ l. backward_of (flow l)) (link_count s)
 inflow-regroup s flow zones valid =
-    let forward : ℕ → ℕ = λ z. sum_where (λ l. to_zone s l == z) (λ l. ahead (flow l)) (link_count s) in
-    let backward : ℕ → ℕ = λ z. sum_where (λ l. from_zone s l == z) (λ l. back (flow l)) (link_count s) in
+    let forward : ℕ → ℕ = λ z. sum_where (λ l. to_zone s l == z) (λ l. forward_of (flow l)) (link_count s) in
+    let backward : ℕ → ℕ = λ z. sum_where (λ l. from_zone s l == z) (λ l. backward_of (flow l)) (link_count s) in
     let split : sum_where zones (inflow s flow) s.zones ≡ sum_where zones forward s.zones + sum_where zones backward s.zones =
     sum_where-add zones forward backward s.zones in
-    let first : sum_where zones forward s.zones ≡ sum_where (λ l. zones (to_zone s l)) (λ l. ahead (flow l)) (link_count s) =
-    sum_where-regroup zones (to_zone s) (λ l. ahead (flow l)) s.zones (link_count s)
+    let first : sum_where zones forward s.zones ≡ sum_where (λ l. zones (to_zone s l)) (λ l. forward_of (flow l)) (link_count s) =
+    sum_where-regroup zones (to_zone s) (λ l. forward_of (flow l)) s.zones (link_count s)
     (λ l below. (link_among s l valid below).end) in
-    let second : sum_where zones backward s.zones ≡ sum_where (λ l. zones (from_zone s l)) (λ l. back (flow l)) (link_count s) =
-    sum_where-regroup zones (from_zone s) (λ l. back (flow l)) s.zones (link_count s)
+    let second : sum_where zones backward s.zones ≡ sum_where (λ l. zones (from_zone s l)) (λ l. backward_of (flow l)) (link_count s) =
+    sum_where-regroup zones (from_zone s) (λ l. backward_of (flow l)) s.zones (link_count s)
     (λ l below. (link_among s l valid below).start) in
     omega arith
 
@@ -36,18 +36,18 @@ inflow-regroup s flow zones valid =
 pub outflow-regroup : (s : ShapeParts) (flow : ℕ → ℤ) (zones : NumberSet)
     → IsShape s
     → over_zones s (outflow s flow) zones
-    ≡ sum_where (λ l. zones (from_zone s l)) (λ l. ahead (flow l)) (link_count s)
-    + sum_where (λ l. zones (to_zone s l)) (λ l. back (flow l)) (link_count s)
+    ≡ sum_where (λ l. zones (from_zone s l)) (λ l. forward_of (flow l)) (link_count s)
+    + sum_where (λ l. zones (to_zone s l)) (λ l. backward_of (flow l)) (link_count s)
 outflow-regroup s flow zones valid =
-    let forward : ℕ → ℕ = λ z. sum_where (λ l. from_zone s l == z) (λ l. ahead (flow l)) (link_count s) in
-    let backward : ℕ → ℕ = λ z. sum_where (λ l. to_zone s l == z) (λ l. back (flow l)) (link_count s) in
+    let forward : ℕ → ℕ = λ z. sum_where (λ l. from_zone s l == z) (λ l. forward_of (flow l)) (link_count s) in
+    let backward : ℕ → ℕ = λ z. sum_where (λ l. to_zone s l == z) (λ l. backward_of (flow l)) (link_count s) in
     let split : sum_where zones (outflow s flow) s.zones ≡ sum_where zones forward s.zones + sum_where zones backward s.zones =
     sum_where-add zones forward backward s.zones in
-    let first : sum_where zones forward s.zones ≡ sum_where (λ l. zones (from_zone s l)) (λ l. ahead (flow l)) (link_count s) =
-    sum_where-regroup zones (from_zone s) (λ l. ahead (flow l)) s.zones (link_count s)
+    let first : sum_where zones forward s.zones ≡ sum_where (λ l. zones (from_zone s l)) (λ l. forward_of (flow l)) (link_count s) =
+    sum_where-regroup zones (from_zone s) (λ l. forward_of (flow l)) s.zones (link_count s)
     (λ l below. (link_among s l valid below).start) in
-    let second : sum_where zones backward s.zones ≡ sum_where (λ l. zones (to_zone s l)) (λ l. back (flow l)) (link_count s) =
-    sum_where-regroup zones (to_zone s) (λ l. back (flow l)) s.zones (link_count s)
+    let second : sum_where zones backward s.zones ≡ sum_where (λ l. zones (to_zone s l)) (λ l. backward_of (flow l)) (link_count s) =
+    sum_where-regroup zones (to_zone s) (λ l. backward_of (flow l)) s.zones (link_count s)
     (λ l below. (link_among s l valid below).end) in
     omega arith
 
@@ -61,71 +61,114 @@ over_devices-regroup s amount zones valid =
 -- flows within their limits bring into a set at most what they take out of it and the limits into it
 pub links_cross : (n : NetworkParts) (flow : ℕ → ℤ) (zones : NumberSet)
     → IsShape n.shape
-    → ((l : ℕ) → l < link_count n.shape → ahead (flow l) ≤ forward_at n l)
-    → ((l : ℕ) → l < link_count n.shape → back (flow l) ≤ backward_at n l)
+    → ((l : ℕ) → l < link_count n.shape → forward_of (flow l) ≤ forward_at n l)
+    → ((l : ℕ) → l < link_count n.shape → backward_of (flow l) ≤ backward_at n l)
     → over_zones n.shape (inflow n.shape flow) zones ≤ over_zones n.shape (outflow n.shape flow) zones + into n zones
 links_cross n flow zones valid forward backward =
     let s : ShapeParts = n.shape in
-    let first : sum_where (λ l. zones (to_zone n.shape l)) (λ l. ahead (flow l)) (link_count n.shape)
-    ≤ sum_where (λ l. zones (from_zone n.shape l)) (λ l. ahead (flow l)) (link_count n.shape)
-    + sum_where (enters_ahead n.shape zones) (forward_at n) (link_count n.shape) =
-    sum_where-crossing (λ l. zones (from_zone n.shape l)) (λ l. zones (to_zone n.shape l)) (λ l. ahead (flow l)) (forward_at n)
+    let first : sum_where (λ l. zones (to_zone n.shape l)) (λ l. forward_of (flow l)) (link_count n.shape)
+    ≤ sum_where (λ l. zones (from_zone n.shape l)) (λ l. forward_of (flow l)) (link_count n.shape)
+    + sum_where (enters_forward n.shape zones) (forward_at n) (link_count n.shape) =
+    sum_where-crossing (λ l. zones (from_zone n.shape l)) (λ l. zones (to_zone n.shape l)) (λ l. forward_of (flow l)) (forward_at n)
     (link_count n.shape) forward in
-    let second : sum_where (λ l. zones (from_zone n.shape l)) (λ l. back (flow l)) (link_count n.shape)
-    ≤ sum_where (λ l. zones (to_zone n.shape l)) (λ l. back (flow l)) (link_count n.shape)
-    + sum_where (enters_back n.shape zones) (backward_at n) (link_count n.shape) =
-    sum_where-crossing (λ l. zones (to_zone n.shape l)) (λ l. zones (from_zone n.shape l)) (λ l. back (flow l)) (backward_at n)
+    let second : sum_where (λ l. zones (from_zone n.shape l)) (λ l. backward_of (flow l)) (link_count n.shape)
+    ≤ sum_where (λ l. zones (to_zone n.shape l)) (λ l. backward_of (flow l)) (link_count n.shape)
+    + sum_where (enters_backward n.shape zones) (backward_at n) (link_count n.shape) =
+    sum_where-crossing (λ l. zones (to_zone n.shape l)) (λ l. zones (from_zone n.shape l)) (λ l. backward_of (flow l)) (backward_at n)
     (link_count n.shape) backward in
     omega (arith, inflow-regroup n.shape flow zones valid, outflow-regroup n.shape flow zones valid)
 
--- the same as an equation, where each link into the set is full and none takes anything out of it
+-- each link into a set of zones is full, and none takes anything out of it
+pub record AreFull (n : NetworkParts) (flow : ℕ → ℤ) (zones : NumberSet) : Type 0 where
+  pub enters :
+      (l : ℕ)
+      → l < link_count n.shape
+      → zones (from_zone n.shape l) ≡ false
+      → zones (to_zone n.shape l) ≡ true
+      → (forward_of (flow l) ≡ forward_at n l) × (backward_of (flow l) ≡ 0)
+  pub leaves :
+      (l : ℕ)
+      → l < link_count n.shape
+      → zones (from_zone n.shape l) ≡ true
+      → zones (to_zone n.shape l) ≡ false
+      → (backward_of (flow l) ≡ backward_at n l) × (forward_of (flow l) ≡ 0)
+
+-- the same as an equation, where the links into the set are full
 pub links_cross-full : (n : NetworkParts) (flow : ℕ → ℤ) (zones : NumberSet)
     → IsShape n.shape
-    → ((l : ℕ) → l < link_count n.shape → zones (from_zone n.shape l) ≡ false → zones (to_zone n.shape l) ≡ true → (ahead (flow l) ≡ forward_at n l) × (back (flow l) ≡ 0))
-    → ((l : ℕ) → l < link_count n.shape → zones (from_zone n.shape l) ≡ true → zones (to_zone n.shape l) ≡ false → (back (flow l) ≡ backward_at n l) × (ahead (flow l) ≡ 0))
+    → AreFull n flow zones
     → over_zones n.shape (inflow n.shape flow) zones ≡ over_zones n.shape (outflow n.shape flow) zones + into n zones
-links_cross-full n flow zones valid enters leaves =
-    let first : sum_where (λ l. zones (to_zone n.shape l)) (λ l. ahead (flow l)) (link_count n.shape)
-    ≡ sum_where (λ l. zones (from_zone n.shape l)) (λ l. ahead (flow l)) (link_count n.shape)
-    + sum_where (enters_ahead n.shape zones) (forward_at n) (link_count n.shape) =
-    sum_where-crossing_full (λ l. zones (from_zone n.shape l)) (λ l. zones (to_zone n.shape l)) (λ l. ahead (flow l)) (forward_at n)
-    (link_count n.shape) (λ l below p q. (enters l below p q).0) (λ l below p q. (leaves l below p q).1) in
-    let second : sum_where (λ l. zones (from_zone n.shape l)) (λ l. back (flow l)) (link_count n.shape)
-    ≡ sum_where (λ l. zones (to_zone n.shape l)) (λ l. back (flow l)) (link_count n.shape)
-    + sum_where (enters_back n.shape zones) (backward_at n) (link_count n.shape) =
-    sum_where-crossing_full (λ l. zones (to_zone n.shape l)) (λ l. zones (from_zone n.shape l)) (λ l. back (flow l)) (backward_at n)
-    (link_count n.shape) (λ l below p q. (leaves l below q p).0) (λ l below p q. (enters l below q p).1) in
+links_cross-full n flow zones valid full =
+    let first : sum_where (λ l. zones (to_zone n.shape l)) (λ l. forward_of (flow l)) (link_count n.shape)
+    ≡ sum_where (λ l. zones (from_zone n.shape l)) (λ l. forward_of (flow l)) (link_count n.shape)
+    + sum_where (enters_forward n.shape zones) (forward_at n) (link_count n.shape) =
+    sum_where-crossing_full (λ l. zones (from_zone n.shape l)) (λ l. zones (to_zone n.shape l)) (λ l. forward_of (flow l)) (forward_at n)
+    (link_count n.shape) (λ l below p q. (full.enters l below p q).0) (λ l below p q. (full.leaves l below p q).1) in
+    let second : sum_where (λ l. zones (from_zone n.shape l)) (λ l. backward_of (flow l)) (link_count n.shape)
+    ≡ sum_where (λ l. zones (to_zone n.shape l)) (λ l. backward_of (flow l)) (link_count n.shape)
+    + sum_where (enters_backward n.shape zones) (backward_at n) (link_count n.shape) =
+    sum_where-crossing_full (λ l. zones (to_zone n.shape l)) (λ l. zones (from_zone n.shape l)) (λ l. backward_of (flow l)) (backward_at n)
+    (link_count n.shape) (λ l below p q. (full.leaves l below q p).0) (λ l below p q. (full.enters l below q p).1) in
     omega (arith, inflow-regroup n.shape flow zones valid, outflow-regroup n.shape flow zones valid)
 
--- a feasible dispatch keeps its balance over every set of zones
-pub balance_of : (n : NetworkParts) (d : Dispatch) (zones : NumberSet)
+-- and conversely: where the links bring in as much as they may, each into the set is full and none takes anything
+-- out of it
+pub links_cross-forced : (n : NetworkParts) (flow : ℕ → ℤ) (zones : NumberSet)
     → IsShape n.shape
-    → IsFeasible n d
-    → over_zones n.shape d.generation zones + over_devices n.shape d.discharge zones + over_zones n.shape (inflow n.shape d.flow) zones
-    ≡ over_zones n.shape d.served zones + over_devices n.shape d.charge zones + over_zones n.shape (outflow n.shape d.flow) zones
-balance_of n d zones valid feasible =
-    let discharged : ℕ → ℕ = λ z. over_devices n.shape d.discharge (λ w. w == z) in
-    let charged : ℕ → ℕ = λ z. over_devices n.shape d.charge (λ w. w == z) in
-    let given : ℕ → ℕ = λ z. d.generation z + discharged z in
-    let taken : ℕ → ℕ = λ z. d.served z + charged z in
-    let by_zone : sum_where zones (λ z. given z + inflow n.shape d.flow z) n.shape.zones
-    ≡ sum_where zones (λ z. taken z + outflow n.shape d.flow z) n.shape.zones =
-    sum_where-same zones (λ z. given z + inflow n.shape d.flow z) (λ z. taken z + outflow n.shape d.flow z) n.shape.zones
-    (λ z below in'. feasible.balance z below) in
-    let g1 : sum_where zones (λ z. given z + inflow n.shape d.flow z) n.shape.zones
-    ≡ sum_where zones given n.shape.zones + sum_where zones (inflow n.shape d.flow) n.shape.zones =
-    sum_where-add zones given (inflow n.shape d.flow) n.shape.zones in
-    let g2 : sum_where zones given n.shape.zones ≡ sum_where zones d.generation n.shape.zones + sum_where zones discharged n.shape.zones =
-    sum_where-add zones d.generation discharged n.shape.zones in
-    let t1 : sum_where zones (λ z. taken z + outflow n.shape d.flow z) n.shape.zones
-    ≡ sum_where zones taken n.shape.zones + sum_where zones (outflow n.shape d.flow) n.shape.zones =
-    sum_where-add zones taken (outflow n.shape d.flow) n.shape.zones in
-    let t2 : sum_where zones taken n.shape.zones ≡ sum_where zones d.served n.shape.zones + sum_where zones charged n.shape.zones =
-    sum_where-add zones d.served charged n.shape.zones in
-    let devices : sum_where zones discharged n.shape.zones ≡ over_devices n.shape d.discharge zones =
-    over_devices-regroup n.shape d.discharge zones valid in
-    let charges : sum_where zones charged n.shape.zones ≡ over_devices n.shape d.charge zones =
-    over_devices-regroup n.shape d.charge zones valid in
+    → ((l : ℕ) → l < link_count n.shape → forward_of (flow l) ≤ forward_at n l)
+    → ((l : ℕ) → l < link_count n.shape → backward_of (flow l) ≤ backward_at n l)
+    → over_zones n.shape (outflow n.shape flow) zones + into n zones ≤ over_zones n.shape (inflow n.shape flow) zones
+    → AreFull n flow zones
+links_cross-forced n flow zones valid forward backward most =
+    let first : sum_where (λ l. zones (to_zone n.shape l)) (λ l. forward_of (flow l)) (link_count n.shape)
+    ≤ sum_where (λ l. zones (from_zone n.shape l)) (λ l. forward_of (flow l)) (link_count n.shape)
+    + sum_where (enters_forward n.shape zones) (forward_at n) (link_count n.shape) =
+    sum_where-crossing (λ l. zones (from_zone n.shape l)) (λ l. zones (to_zone n.shape l)) (λ l. forward_of (flow l)) (forward_at n)
+    (link_count n.shape) forward in
+    let second : sum_where (λ l. zones (from_zone n.shape l)) (λ l. backward_of (flow l)) (link_count n.shape)
+    ≤ sum_where (λ l. zones (to_zone n.shape l)) (λ l. backward_of (flow l)) (link_count n.shape)
+    + sum_where (enters_backward n.shape zones) (backward_at n) (link_count n.shape) =
+    sum_where-crossing (λ l. zones (to_zone n.shape l)) (λ l. zones (from_zone n.shape l)) (λ l. backward_of (flow l)) (backward_at n)
+    (link_count n.shape) backward in
+    let ins = inflow-regroup n.shape flow zones valid in
+    let outs = outflow-regroup n.shape flow zones valid in
+    let aheads = sum_where-crossing_forced (λ l. zones (from_zone n.shape l)) (λ l. zones (to_zone n.shape l)) (λ l. forward_of (flow l)) (forward_at n)
+    (link_count n.shape) forward (omega arith) in
+    let backs = sum_where-crossing_forced (λ l. zones (to_zone n.shape l)) (λ l. zones (from_zone n.shape l)) (λ l. backward_of (flow l)) (backward_at n)
+    (link_count n.shape) backward (omega arith) in
+    record {
+      enters = λ l below p q. ((aheads l below).0 p q, (backs l below).1 q p);
+      leaves = λ l below p q. ((backs l below).0 q p, (aheads l below).1 p q);
+    }
+
+-- where each zone of a set is in balance so is the set
+pub balance_over : (s : ShapeParts) (made given used stored : ℕ → ℕ) (flow : ℕ → ℤ) (zones : NumberSet)
+    → IsShape s
+    → ((z : ℕ) → z < s.zones → made z + over_devices s given (λ w. w == z) + inflow s flow z ≡ used z + over_devices s stored (λ w. w == z) + outflow s flow z)
+    → over_zones s made zones + over_devices s given zones + over_zones s (inflow s flow) zones
+    ≡ over_zones s used zones + over_devices s stored zones + over_zones s (outflow s flow) zones
+balance_over s made given used stored flow zones valid balance =
+    let discharged : ℕ → ℕ = λ z. over_devices s given (λ w. w == z) in
+    let charged : ℕ → ℕ = λ z. over_devices s stored (λ w. w == z) in
+    let come : ℕ → ℕ = λ z. made z + discharged z in
+    let taken : ℕ → ℕ = λ z. used z + charged z in
+    let by_zone : sum_where zones (λ z. come z + inflow s flow z) s.zones ≡ sum_where zones (λ z. taken z + outflow s flow z) s.zones =
+    sum_where-same zones (λ z. come z + inflow s flow z) (λ z. taken z + outflow s flow z) s.zones
+    (λ z below in'. balance z below) in
+    let g1 : sum_where zones (λ z. come z + inflow s flow z) s.zones
+    ≡ sum_where zones come s.zones + sum_where zones (inflow s flow) s.zones =
+    sum_where-add zones come (inflow s flow) s.zones in
+    let g2 : sum_where zones come s.zones ≡ sum_where zones made s.zones + sum_where zones discharged s.zones =
+    sum_where-add zones made discharged s.zones in
+    let t1 : sum_where zones (λ z. taken z + outflow s flow z) s.zones
+    ≡ sum_where zones taken s.zones + sum_where zones (outflow s flow) s.zones =
+    sum_where-add zones taken (outflow s flow) s.zones in
+    let t2 : sum_where zones taken s.zones ≡ sum_where zones used s.zones + sum_where zones charged s.zones =
+    sum_where-add zones used charged s.zones in
+    let devices : sum_where zones discharged s.zones ≡ over_devices s given zones =
+    over_devices-regroup s given zones valid in
+    let charges : sum_where zones charged s.zones ≡ over_devices s stored zones =
+    over_devices-regroup s stored zones valid in
     omega arith
 
 -- what a feasible dispatch serves and charges in a set of zones is at most what it makes and discharges there and
@@ -136,7 +179,11 @@ pub served_within : (n : NetworkParts) (d : Dispatch) (zones : NumberSet)
     → over_zones n.shape d.served zones + over_devices n.shape d.charge zones
     ≤ over_zones n.shape d.generation zones + over_devices n.shape d.discharge zones + into n zones
 served_within n d zones valid feasible =
-    omega (arith, balance_of n d zones valid feasible, links_cross n d.flow zones valid feasible.forward feasible.backward)
+    omega (
+      arith,
+      balance_over n.shape d.generation d.discharge d.served d.charge d.flow zones valid feasible.balance,
+      links_cross n d.flow zones valid feasible.forward feasible.backward,
+    )
 
 -- and so is at most the set's supply, its discharge caps and the limits into it
 pub served_within_caps : (n : NetworkParts) (d : Dispatch) (zones : NumberSet)

@@ -1,3 +1,4 @@
+pub mod MaskLemmas
 pub mod SumLemmas
 pub mod FlowLemmas
 pub mod Worked

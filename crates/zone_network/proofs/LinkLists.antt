@@ -62,9 +62,26 @@ passing_there p (suc n) k below h =
     ] in
     subst (λ (m : ℕ). Contains (filter p (range_with_len 0 m)) k) (add-one n) more
 
+-- and passes
+pub passing_passes : (p : ℕ → Bool) (n : ℕ) → All (λ k. p k ≡ true) (filter p (range_with_len 0 n))
+passing_passes p zero = All-nil (λ k. p k ≡ true)
+passing_passes p (suc n) =
+    let more : All (λ k. p k ≡ true) (filter p (range_with_len 0 (n + 1))) =
+    elim (cases_Bool (p n)) [
+      | inl holds ↦
+          subst (λ (xs : List ℕ). All (λ k. p k ≡ true) xs) (sym (passing_pushed p n holds))
+          (All-push (λ k. p k ≡ true) (filter p (range_with_len 0 n)) n (passing_passes p n) holds)
+      | inr fails ↦ subst (λ (xs : List ℕ). All (λ k. p k ≡ true) xs) (sym (passing_same p n fails)) (passing_passes p n)
+    ] in
+    subst (λ (m : ℕ). All (λ k. p k ≡ true) (filter p (range_with_len 0 m))) (add-one n) more
+
 -- the links of a zone are links
 pub links_of-below : (s : ShapeParts) (zone : ℕ) → All (λ l. l < link_count s) (links_of s zone)
 links_of-below s zone = passing_below (touches_at s.ends zone) (link_count s)
+
+-- and each starts or ends there
+pub links_of-touch : (s : ShapeParts) (zone : ℕ) → All (λ l. touches_at s.ends zone l ≡ true) (links_of s zone)
+links_of-touch s zone = passing_passes (touches_at s.ends zone) (link_count s)
 
 -- a link is among those of the zone where it starts, and of the one where it ends
 pub links_of-start : (s : ShapeParts) (zone l : ℕ) → l < link_count s → from_zone s l ≡ zone → Contains (links_of s zone) l

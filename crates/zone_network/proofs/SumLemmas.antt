@@ -1,4 +1,4 @@
-use Rattle.std.proofs.Common.{◌≡◌, ◌≢◌, ℕ, zero, suc, ◌+◌, ◌*◌, ◌<◌, ◌≤◌, ◌==◌, inl, inr, Bool, true, false, cond, ◌&&◌, not, refl, ap, sym, ◌∙◌, arith, add-one}
+use Rattle.std.proofs.Common.{◌≡◌, ◌≢◌, ℕ, zero, suc, ◌+◌, ◌*◌, ◌<◌, ◌≤◌, ◌==◌, inl, inr, Bool, true, false, cond, ◌&&◌, not, refl, ap, sym, ◌∙◌, arith, subst, add-one}
 use Rattle.std.proofs.lemmas.Bool.{cond-true, cond-false, cases_Bool, cases_eq, cases_lt, eq-eqb, ne_eqb, false≢true}
 use Rattle.zone_network.specs.Sums.{NumberSet, sum_where}
 
@@ -35,12 +35,6 @@ sum_where-same p f g n h =
       | inl holds ↦ omega (arith, cond-true (p i) (f i) 0 holds, cond-true (p i) (g i) 0 holds, h i below holds)
       | inr fails ↦ omega (arith, cond-false (p i) (f i) 0 fails, cond-false (p i) (g i) 0 fails)
     ])
-
--- the same terms over sets that agree
-pub sum_where-set : (p q : NumberSet) (f : ℕ → ℕ) (n : ℕ)
-    → ((i : ℕ) → i < n → p i ≡ q i)
-    → sum_where p f n ≡ sum_where q f n
-sum_where-set p q f n h = sum_where-equal p q f f n (λ i below. ap (λ (b : Bool). cond b (f i) 0) (h i below))
 
 -- term by term at most
 pub sum_where-le : (p q : NumberSet) (f g : ℕ → ℕ) (n : ℕ)
@@ -154,6 +148,19 @@ pub sum_where-outside : (p : NumberSet) (f g : ℕ → ℕ) (n k : ℕ)
 sum_where-outside p f g n k fails h =
     sum_where-same p f g n
     (λ i below holds. h i (λ e. false≢true (sym fails ∙ ap p (sym e) ∙ holds)))
+
+-- one term changes, whether or not its number is in the set
+pub sum_where-at : (p : NumberSet) (f g : ℕ → ℕ) (n k : ℕ)
+    → k < n
+    → ((i : ℕ) → i ≢ k → f i ≡ g i)
+    → sum_where p f n + cond (p k) (g k) 0 ≡ sum_where p g n + cond (p k) (f k) 0
+sum_where-at p f g n k below h =
+    elim (cases_Bool (p k)) [
+      | inl holds ↦
+          omega (arith, sum_where-changed p f g n k below holds h, cond-true (p k) (g k) 0 holds, cond-true (p k) (f k) 0 holds)
+      | inr fails ↦
+          omega (arith, sum_where-outside p f g n k fails h, cond-false (p k) (g k) 0 fails, cond-false (p k) (f k) 0 fails)
+    ]
 
 -- of two sums, where the first is at most the second and each other term of the second is at most that of the
 -- first, this term of the first is at most that of the second
@@ -269,3 +276,41 @@ sum_where-crossing_full p q f limit (suc n) full empty =
     full_term true false x most full empty = omega (arith, empty refl refl)
     full_term false true x most full empty = omega (arith, full refl refl)
     full_term false false x most full empty = omega arith
+
+-- where the sums are equal, what enters is at its limit and nothing leaves
+pub sum_where-crossing_forced : (p q : NumberSet) (f limit : ℕ → ℕ) (n : ℕ)
+    → ((i : ℕ) → i < n → f i ≤ limit i)
+    → sum_where p f n + sum_where (λ i. not (p i) && q i) limit n ≤ sum_where q f n
+    → (i : ℕ)
+    → i < n
+    → (p i ≡ false → q i ≡ true → f i ≡ limit i) × (p i ≡ true → q i ≡ false → f i ≡ 0)
+sum_where-crossing_forced p q f limit zero h most i below = absurd (omega arith)
+sum_where-crossing_forced p q f limit (suc n) h most i below =
+    let before : sum_where q f n ≤ sum_where p f n + sum_where (λ j. not (p j) && q j) limit n =
+    sum_where-crossing p q f limit n (λ j less. h j (omega arith)) in
+    let here : cond (q n) (f n) 0 ≤ cond (p n) (f n) 0 + cond (not (p n) && q n) (limit n) 0 =
+    crossing_term (p n) (q n) (f n) (limit n) (h n (omega arith)) in
+    let all : sum_where p f n + cond (p n) (f n) 0 + (sum_where (λ j. not (p j) && q j) limit n + cond (not (p n) && q n) (limit n) 0)
+    ≤ sum_where q f n + cond (q n) (f n) 0 =
+    omega (arith, sum_where-suc q f n, sum_where-suc p f n, sum_where-suc (λ j. not (p j) && q j) limit n) in
+    elim (cases_eq i n) [
+      | inl last ↦
+          subst (λ (k : ℕ). (p k ≡ false → q k ≡ true → f k ≡ limit k) × (p k ≡ true → q k ≡ false → f k ≡ 0)) (sym last)
+          (forced_term (p n) (q n) (f n) (limit n) (h n (omega arith)) (omega arith))
+      | inr other ↦ sum_where-crossing_forced p q f limit n (λ j less. h j (omega arith)) (omega arith) i (omega arith)
+    ]
+  where
+    crossing_term : (a b : Bool) (x most : ℕ) → x ≤ most → cond b x 0 ≤ cond a x 0 + cond (not a && b) most 0
+    crossing_term true true x most le = omega arith
+    crossing_term true false x most le = omega arith
+    crossing_term false true x most le = omega arith
+    crossing_term false false x most le = omega arith
+
+    forced_term : (a b : Bool) (x most : ℕ)
+        → x ≤ most
+        → cond a x 0 + cond (not a && b) most 0 ≤ cond b x 0
+        → (a ≡ false → b ≡ true → x ≡ most) × (a ≡ true → b ≡ false → x ≡ 0)
+    forced_term true true x most within le = (λ p q. absurd (false≢true (sym p)), λ p q. absurd (false≢true (sym q)))
+    forced_term true false x most within le = (λ p q. absurd (false≢true (sym p)), λ p q. omega arith)
+    forced_term false true x most within le = (λ p q. omega arith, λ p q. absurd (false≢true p))
+    forced_term false false x most within le = (λ p q. absurd (false≢true q), λ p q. absurd (false≢true p))

@@ -1,3 +1,4 @@
+-- tight sets of zones, and the cut of an hour
 use Rattle.std.specs.Prelude.{◌≡◌, ℕ, ◌+◌, ◌<◌, ◌^◌, IsTrue}
 use Rattle.zone_network.specs.Sums.{NumberSet, inside}
 use Rattle.zone_network.specs.Network.{NetworkParts, over_zones, over_devices, into, supply_at, load_at, discharge_cap_at}

@@ -1,7 +1,8 @@
-use Rattle.std.specs.Prelude.{◌≡◌, ℕ, ℤ, ◌+◌, ◌-◌, ◌<◌, ◌≤◌, ◌==◌, ◌⊎◌, List, [], ◌∷◌, ◌++◌, map, reverse, true, nat_le}
+-- what a network may do in its hour, and the best that it may do
+use Rattle.std.specs.Prelude.{◌≡◌, ℕ, ℤ, ◌+◌, ◌-◌, ◌<◌, ◌≤◌, ◌==◌, ◌⊎◌, List, [], ◌∷◌, ◌++◌, map, reverse, true, nat_lt, nat_le}
 use Rattle.std.specs.List.{range_with_len}
 use Rattle.zone_network.specs.Sums.{NumberSet}
-use Rattle.zone_network.specs.Network.{ShapeParts, NetworkParts, ahead, back, inflow, outflow, over_zones, over_devices, link_count, device_count, supply_at, load_at, forward_at, backward_at, discharge_cap_at, charge_cap_at}
+use Rattle.zone_network.specs.Network.{ShapeParts, NetworkParts, forward_of, backward_of, inflow, outflow, over_zones, over_devices, link_count, device_count, supply_at, load_at, forward_at, backward_at, discharge_cap_at, charge_cap_at}
 
 -- what a network does in its hour, in MW: generation and served load by zone, discharge and charge by device,
 -- and a signed flow by link, forward being positive
@@ -18,8 +19,8 @@ pub record IsFeasible (n : NetworkParts) (d : Dispatch) : Type 0 where
   pub served : (z : ℕ) → z < n.shape.zones → d.served z ≤ load_at n z
   pub discharge : (k : ℕ) → k < device_count n.shape → d.discharge k ≤ discharge_cap_at n k
   pub charge : (k : ℕ) → k < device_count n.shape → d.charge k ≤ charge_cap_at n k
-  pub forward : (l : ℕ) → l < link_count n.shape → ahead (d.flow l) ≤ forward_at n l
-  pub backward : (l : ℕ) → l < link_count n.shape → back (d.flow l) ≤ backward_at n l
+  pub forward : (l : ℕ) → l < link_count n.shape → forward_of (d.flow l) ≤ forward_at n l
+  pub backward : (l : ℕ) → l < link_count n.shape → backward_of (d.flow l) ≤ backward_at n l
   pub balance :
       (z : ℕ)
       → z < n.shape.zones
@@ -33,6 +34,10 @@ serving_order s = range_with_len 0 s.zones
 -- the zones that don't stand after a zone in the serving order
 abbrev pub not_after : ShapeParts → ℕ → NumberSet
 not_after s z = λ j. nat_le j z
+
+-- the zones that the first so many places of the serving order hold
+abbrev pub first_served : ShapeParts → ℕ → NumberSet
+first_served s count = λ j. nat_lt j count
 
 -- the load of a zone that isn't served
 abbrev pub unserved_at : NetworkParts → Dispatch → ℕ → ℕ

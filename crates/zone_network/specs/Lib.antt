@@ -1,4 +1,5 @@
 pub mod Sums
+pub mod Masks
 pub mod Network
 pub mod Dispatch
 pub mod Cut

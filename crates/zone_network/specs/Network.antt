@@ -1,3 +1,4 @@
+-- the shape of a network and its amounts in one hour
 use Rattle.std.specs.Prelude.{◌≡◌, ◌≢◌, ℕ, ℤ, pos, negsuc, ◌+◌, ◌<◌, ◌≤◌, ◌==◌, ◌&&◌, ◌||◌, not, List, length, replicate, slice_index, slice_index_or, All, filter}
 use Rattle.std.specs.List.{range_with_len}
 use Rattle.ra_base.specs.declared.limits.TheConstants.{MOST_ZONES, MOST_INTERFACES, MOST_STORAGES, MOST_LINK_MW}
@@ -122,38 +123,38 @@ discharge_cap_at n k = slice_index n.discharge_caps k
 abbrev pub charge_cap_at : NetworkParts → ℕ → ℕ
 charge_cap_at n k = slice_index n.charge_caps k
 
--- of a signed flow, what goes forward and what goes back: one of them is 0
-abbrev pub ahead : ℤ → ℕ
-ahead (pos mw) = mw
-ahead (negsuc below) = 0
+-- of a signed flow, what goes forward and what goes backward: one of them is 0
+abbrev pub forward_of : ℤ → ℕ
+forward_of (pos mw) = mw
+forward_of (negsuc below) = 0
 
-abbrev pub back : ℤ → ℕ
-back (pos mw) = 0
-back (negsuc below) = below + 1
+abbrev pub backward_of : ℤ → ℕ
+backward_of (pos mw) = 0
+backward_of (negsuc below) = below + 1
 
 -- what the flows by link bring into a zone, and what they take out of it
 abbrev pub inflow : ShapeParts → (ℕ → ℤ) → ℕ → ℕ
 inflow s flow z =
-    sum_where (λ l. to_zone s l == z) (λ l. ahead (flow l)) (link_count s)
-    + sum_where (λ l. from_zone s l == z) (λ l. back (flow l)) (link_count s)
+    sum_where (λ l. to_zone s l == z) (λ l. forward_of (flow l)) (link_count s)
+    + sum_where (λ l. from_zone s l == z) (λ l. backward_of (flow l)) (link_count s)
 
 abbrev pub outflow : ShapeParts → (ℕ → ℤ) → ℕ → ℕ
 outflow s flow z =
-    sum_where (λ l. from_zone s l == z) (λ l. ahead (flow l)) (link_count s)
-    + sum_where (λ l. to_zone s l == z) (λ l. back (flow l)) (link_count s)
+    sum_where (λ l. from_zone s l == z) (λ l. forward_of (flow l)) (link_count s)
+    + sum_where (λ l. to_zone s l == z) (λ l. backward_of (flow l)) (link_count s)
 
 -- the links that enter a set of zones when their flow is forward, and when it is backward
-abbrev pub enters_ahead : ShapeParts → NumberSet → NumberSet
-enters_ahead s zones = λ l. not (zones (from_zone s l)) && zones (to_zone s l)
+abbrev pub enters_forward : ShapeParts → NumberSet → NumberSet
+enters_forward s zones = λ l. not (zones (from_zone s l)) && zones (to_zone s l)
 
-abbrev pub enters_back : ShapeParts → NumberSet → NumberSet
-enters_back s zones = λ l. not (zones (to_zone s l)) && zones (from_zone s l)
+abbrev pub enters_backward : ShapeParts → NumberSet → NumberSet
+enters_backward s zones = λ l. not (zones (to_zone s l)) && zones (from_zone s l)
 
 -- the sum of the limits of links towards a set of zones from outside it
 abbrev pub into : NetworkParts → NumberSet → ℕ
 into n zones =
-    sum_where (enters_ahead n.shape zones) (forward_at n) (link_count n.shape)
-    + sum_where (enters_back n.shape zones) (backward_at n) (link_count n.shape)
+    sum_where (enters_forward n.shape zones) (forward_at n) (link_count n.shape)
+    + sum_where (enters_backward n.shape zones) (backward_at n) (link_count n.shape)
 
 -- the sum over the zones of a set of an amount by zone
 abbrev pub over_zones : ShapeParts → (ℕ → ℕ) → NumberSet → ℕ

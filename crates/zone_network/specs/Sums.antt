@@ -1,3 +1,4 @@
+-- sets of numbers and sums over them
 use Rattle.std.specs.Prelude.{ℕ, zero, suc, ◌+◌, ◌/◌, ◌%◌, ◌^◌, ◌==◌, Bool, if◌then◌else◌}
 
 -- a set of numbers, as of zones, by its test

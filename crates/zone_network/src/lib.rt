@@ -6,10 +6,12 @@
 #![tactic(auto)]
 
 mod links;
+mod masks;
 mod networks;
 mod shapes;
 
 pub use links::Link;
+pub use masks::{has_zone, with_zone};
 pub use networks::Network;
 pub use shapes::Shape;
 

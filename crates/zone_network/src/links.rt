@@ -1,4 +1,5 @@
 ghost use Rattle.std.specs.Prelude.{◌≡◌, ◌==◌, ◌||◌};
+ghost use Rattle.ra_base.specs.declared.limits.TheConstants.{MOST_INTERFACES};
 
 use ra_base::OutOfMemory;
 use std::alloc::Global;
@@ -33,7 +34,7 @@ impl LinkList {
 
     /// The links that start or end in a zone, ascending.
     pub fn of(alloc: Global, ends: &[Link], zone: u8) -> Result<LinkList, OutOfMemory>
-        requires { length ends.now ≤ 128 }
+        requires { length ends.now ≤ MOST_INTERFACES }
         ensures { IfOk result (λ list. list ≡ touching ends.now zone) }
     {
         let mut links = Vec::new(alloc);

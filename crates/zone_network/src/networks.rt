@@ -1,4 +1,5 @@
 ghost use Rattle.std.specs.Prelude.{◌≡◌, ◌<◌, ◌≤◌, length, IfOk, slice_set};
+ghost use Rattle.ra_base.specs.declared.limits.TheConstants.{MOST_LINK_MW};
 ghost use Rattle.zone_network.specs.Network.{ShapeParts, NetworkParts, IsLinkAmong, IsNetwork, empty_network, link_count, device_count, link_at, links_of, zone_of_device, supply_at, load_at, forward_at, backward_at, discharge_cap_at, charge_cap_at};
 
 use crate::links::Link;
@@ -54,7 +55,7 @@ impl Network {
     #[inline]
     pub fn set_supply(&mut self, zone: u8, mw: u32)
         requires zone { zone < self.old.shape.zones }
-        requires mw { mw ≤ 1000000 }
+        requires mw { mw ≤ MOST_LINK_MW }
         ensures { self.new ≡ record self.old { supplies = slice_set self.old.supplies zone mw } }
     {
         self.supply.set(zone as usize, mw);
@@ -64,7 +65,7 @@ impl Network {
     #[inline]
     pub fn set_load(&mut self, zone: u8, mw: u32)
         requires zone { zone < self.old.shape.zones }
-        requires mw { mw ≤ 1000000 }
+        requires mw { mw ≤ MOST_LINK_MW }
         ensures { self.new ≡ record self.old { loads = slice_set self.old.loads zone mw } }
     {
         self.load.set(zone as usize, mw);
@@ -74,8 +75,8 @@ impl Network {
     #[inline]
     pub fn set_link(&mut self, link: u32, forward: u32, backward: u32)
         requires link { link < link_count self.old.shape }
-        requires forward { forward ≤ 1000000 }
-        requires backward { backward ≤ 1000000 }
+        requires forward { forward ≤ MOST_LINK_MW }
+        requires backward { backward ≤ MOST_LINK_MW }
         ensures { self.new ≡ record self.old { forwards = slice_set self.old.forwards link forward; backwards = slice_set self.old.backwards link backward } }
     {
         self.forward.set(link as usize, forward);
@@ -86,8 +87,8 @@ impl Network {
     #[inline]
     pub fn set_caps(&mut self, device: u32, discharge: u32, charge: u32)
         requires device { device < device_count self.old.shape }
-        requires discharge { discharge ≤ 1000000 }
-        requires charge { charge ≤ 1000000 }
+        requires discharge { discharge ≤ MOST_LINK_MW }
+        requires charge { charge ≤ MOST_LINK_MW }
         ensures { self.new ≡ record self.old { discharge_caps = slice_set self.old.discharge_caps device discharge; charge_caps = slice_set self.old.charge_caps device charge } }
     {
         self.discharge.set(device as usize, discharge);
@@ -158,7 +159,7 @@ impl Network {
     pub fn supply(&self, zone: u8) -> u32
         requires { zone < self.now.shape.zones }
         ensures value { result ≡ supply_at self.now zone }
-        ensures most { result ≤ 1000000 }
+        ensures most { result ≤ MOST_LINK_MW }
         ensures valid { IsNetwork self.now }
     {
         self.supply.get(zone as usize)
@@ -169,7 +170,7 @@ impl Network {
     pub fn load(&self, zone: u8) -> u32
         requires { zone < self.now.shape.zones }
         ensures value { result ≡ load_at self.now zone }
-        ensures most { result ≤ 1000000 }
+        ensures most { result ≤ MOST_LINK_MW }
         ensures valid { IsNetwork self.now }
     {
         self.load.get(zone as usize)
@@ -180,7 +181,7 @@ impl Network {
     pub fn forward(&self, link: u32) -> u32
         requires { link < link_count self.now.shape }
         ensures value { result ≡ forward_at self.now link }
-        ensures most { result ≤ 1000000 }
+        ensures most { result ≤ MOST_LINK_MW }
         ensures valid { IsNetwork self.now }
     {
         self.forward.get(link as usize)
@@ -191,7 +192,7 @@ impl Network {
     pub fn backward(&self, link: u32) -> u32
         requires { link < link_count self.now.shape }
         ensures value { result ≡ backward_at self.now link }
-        ensures most { result ≤ 1000000 }
+        ensures most { result ≤ MOST_LINK_MW }
         ensures valid { IsNetwork self.now }
     {
         self.backward.get(link as usize)
@@ -202,7 +203,7 @@ impl Network {
     pub fn discharge_cap(&self, device: u32) -> u32
         requires { device < device_count self.now.shape }
         ensures value { result ≡ discharge_cap_at self.now device }
-        ensures most { result ≤ 1000000 }
+        ensures most { result ≤ MOST_LINK_MW }
         ensures valid { IsNetwork self.now }
     {
         self.discharge.get(device as usize)
@@ -213,7 +214,7 @@ impl Network {
     pub fn charge_cap(&self, device: u32) -> u32
         requires { device < device_count self.now.shape }
         ensures value { result ≡ charge_cap_at self.now device }
-        ensures most { result ≤ 1000000 }
+        ensures most { result ≤ MOST_LINK_MW }
         ensures valid { IsNetwork self.now }
     {
         self.charge.get(device as usize)

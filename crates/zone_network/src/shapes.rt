@@ -1,4 +1,5 @@
 ghost use Rattle.std.specs.Prelude.{◌≡◌, ◌<◌, ◌≤◌, length, All, IfOk, map};
+ghost use Rattle.ra_base.specs.declared.limits.TheConstants.{MOST_INTERFACES};
 ghost use Rattle.std.specs.List.{range_with_len};
 ghost use Rattle.zone_network.specs.Network.{ShapeParts, IsLinkAmong, IsShape, link_count, device_count, link_at, links_of, touching, zone_of_device};
 
@@ -116,7 +117,7 @@ impl Shape {
 
 /// For each zone the links that start or end there.
 fn by_zone(alloc: Global, zones: u8, links: &[Link]) -> Result<Vec<LinkList>, OutOfMemory>
-    requires { length links.now ≤ 128 }
+    requires { length links.now ≤ MOST_INTERFACES }
     ensures { IfOk result (λ lists. lists.items ≡ map (touching links.now) (range_with_len 0 zones)) }
 {
     let mut lists = Vec::new(alloc);

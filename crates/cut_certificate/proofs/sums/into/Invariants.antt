@@ -1,13 +1,13 @@
 use Rattle.std.proofs.Common.{◌≡◌, ◌+◌, ◌*◌, ◌≤◌}
 use Rattle.zone_network.specs.Sums.{inside, sum_where}
-use Rattle.zone_network.specs.Network.{enters_ahead, enters_back, forward_at, backward_at}
+use Rattle.zone_network.specs.Network.{enters_forward, enters_backward, forward_at, backward_at}
 use Rattle.cut_certificate.proofs.sums.into.Given as goal
 
 abbrev pub invariant-loop-l : goal.invariant-loop-l
 invariant-loop-l l = record {
   value :
       l.sum
-      ≡ sum_where (enters_ahead l.net.shape (inside l.mask)) (forward_at l.net) l.l
-      + sum_where (enters_back l.net.shape (inside l.mask)) (backward_at l.net) l.l;
+      ≡ sum_where (enters_forward l.net.shape (inside l.mask)) (forward_at l.net) l.l
+      + sum_where (enters_backward l.net.shape (inside l.mask)) (backward_at l.net) l.l;
   most : l.sum ≤ 1000000 * l.l;
 }

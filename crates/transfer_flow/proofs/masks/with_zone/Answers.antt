@@ -1,5 +1,0 @@
-use Rattle.transfer_flow.proofs.MaskLemmas.{adds_number}
-use Rattle.transfer_flow.proofs.masks.with_zone.Goals as goal
-
-pub returns : goal.returns
-returns c = adds_number c.args.mask c.args.zone c.requires
