@@ -1,9 +1,10 @@
 -- What seven tables give: the system that they spell, or their first fault.
-use Rattle.std.specs.Prelude.{◌≡◌, ℕ, List, [], Option, None, Some, Result, Ok, Err, unwrap_or}
+use Rattle.std.specs.Prelude.{◌≡◌, ℕ, ◌⊎◌, List, [], Option, None, Some, Result, Ok, Err, unwrap_or, option_map}
 use Rattle.ra_base.specs.declared.table.TableBytes.{TableBytes}
 use Rattle.system_model.specs.System.{SystemParts, no_parts}
 use Rattle.system_tables.specs.declared.faults.TableFault.{TableFault}
 use Rattle.system_tables.specs.Faults.{◌>>=◌}
+use Rattle.system_tables.specs.Records.{records_of}
 use Rattle.system_tables.specs.Zones.{with_zones}
 use Rattle.system_tables.specs.Units.{with_units}
 use Rattle.system_tables.specs.Interfaces.{with_interfaces}
@@ -37,3 +38,25 @@ Reads tables system = system_of tables ≡ Ok system
 -- this is the first fault of the tables
 abbrev pub FirstFault : TableBytes → TableFault → Type 0
 FirstFault tables fault = system_of tables ≡ Err fault
+
+-- tables spell one system or have one first fault, and never both
+pub record HaveOneOutcome (tables : TableBytes) : Type 0 where
+  pub some : ((system : SystemParts) × Reads tables system) ⊎ ((fault : TableFault) × FirstFault tables fault)
+  pub one_system : (a b : SystemParts) → Reads tables a → Reads tables b → a ≡ b
+  pub one_fault : (a b : TableFault) → FirstFault tables a → FirstFault tables b → a ≡ b
+  pub apart : (system : SystemParts) (fault : TableFault) → Reads tables system → FirstFault tables fault → ⊥
+
+-- the records of a table that is there
+abbrev pub records_in : Option (List ℕ) → Option (List (List (List ℕ)))
+records_in table = option_map records_of table
+
+-- Both have the same tables with the same records, whatever their quotes, spaces and line ends are, and whether a
+-- byte order mark stands in front.
+pub record HaveSameRecords (a b : TableBytes) : Type 0 where
+  pub zones : records_in a.zones ≡ records_in b.zones
+  pub units : records_in a.units ≡ records_in b.units
+  pub interfaces : records_in a.interfaces ≡ records_in b.interfaces
+  pub lines : records_in a.lines ≡ records_in b.lines
+  pub storages : records_in a.storages ≡ records_in b.storages
+  pub load : records_in a.load ≡ records_in b.load
+  pub variable : records_in a.variable ≡ records_in b.variable
