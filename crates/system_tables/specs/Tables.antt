@@ -3,8 +3,8 @@ use Rattle.std.specs.Prelude.{◌≡◌, ℕ, ◌⊎◌, List, [], Option, None,
 use Rattle.ra_base.specs.declared.table.TableBytes.{TableBytes}
 use Rattle.system_model.specs.System.{SystemParts, no_parts}
 use Rattle.system_tables.specs.declared.faults.TableFault.{TableFault}
-use Rattle.system_tables.specs.Faults.{◌>>=◌}
-use Rattle.system_tables.specs.Records.{records_of}
+use Rattle.system_tables.specs.Faults.{Read, ◌>>=◌}
+use Rattle.system_tables.specs.Records.{Rows, records_of}
 use Rattle.system_tables.specs.Zones.{with_zones}
 use Rattle.system_tables.specs.Units.{with_units}
 use Rattle.system_tables.specs.Interfaces.{with_interfaces}
@@ -13,7 +13,7 @@ use Rattle.system_tables.specs.Storages.{with_storages}
 use Rattle.system_tables.specs.Hours.{with_hours}
 
 -- the rows of a table, where there is such a table
-unfoldable pub where_there : (SystemParts → List ℕ → Result SystemParts TableFault) → SystemParts → Option (List ℕ) → Result SystemParts TableFault
+unfoldable pub where_there : (SystemParts → List ℕ → Read SystemParts) → SystemParts → Option (List ℕ) → Read SystemParts
 where_there read above None = Ok above
 where_there read above (Some bytes) = read above bytes
 
@@ -22,7 +22,7 @@ abbrev pub bytes_of : Option (List ℕ) → List ℕ
 bytes_of table = unwrap_or table []
 
 -- The tables in their order, each by what the earlier ones gave: the system, or the first fault.
-unfoldable pub system_of : TableBytes → Result SystemParts TableFault
+unfoldable pub system_of : TableBytes → Read SystemParts
 system_of tables = do
   zones ← with_zones no_parts (bytes_of tables.zones)
   units ← with_units zones (bytes_of tables.units)
@@ -47,11 +47,11 @@ pub record HaveOneOutcome (tables : TableBytes) : Type 0 where
   pub apart : (system : SystemParts) (fault : TableFault) → Reads tables system → FirstFault tables fault → ⊥
 
 -- the records of a table that is there
-abbrev pub records_in : Option (List ℕ) → Option (List (List (List ℕ)))
+abbrev pub records_in : Option (List ℕ) → Option Rows
 records_in table = option_map records_of table
 
--- Both have the same tables with the same records, whatever their quotes, spaces and line ends are, and whether a
--- byte order mark stands in front.
+-- Both have the same tables with the same records, whatever their quotes, spaces and line ends are, and whether
+-- a byte order mark stands in front.
 pub record HaveSameRecords (a b : TableBytes) : Type 0 where
   pub zones : records_in a.zones ≡ records_in b.zones
   pub units : records_in a.units ≡ records_in b.units
