@@ -6,3 +6,4 @@ pub mod ColumnLaws
 pub mod TurnLaws
 pub mod SoFarLaws
 pub mod HourLaws
+pub mod OutcomeLaws

@@ -12,8 +12,9 @@ use Rattle.system_tables.specs.declared.faults.Place.{Place}
 use Rattle.system_tables.specs.declared.faults.TableFault.{TableFault}
 use Rattle.system_tables.specs.declared.fields.RateColumns.{RateColumns}
 use Rattle.system_tables.specs.Columns.{field_of}
-use Rattle.system_tables.specs.Faults.{◌>>=◌, fault_at, refuse}
-use Rattle.system_tables.specs.Names.{is_among}
+use Rattle.system_tables.specs.Faults.{Read, ◌>>=◌, fault_at, refuse}
+use Rattle.system_tables.specs.Names.{Names, is_among}
+use Rattle.system_tables.specs.Records.{Row}
 
 -- a value between two bounds
 pub record AreInRange (low most value : ℕ) : Type 0 where
@@ -21,74 +22,76 @@ pub record AreInRange (low most value : ℕ) : Type 0 where
   pub at_most : value ≤ most
 
 -- the number, or its fault
-abbrev pub number : Place → Column → Result ℕ NumberFault → Result ℕ TableFault
+abbrev pub number : Place → Column → Result ℕ NumberFault → Read ℕ
 number place column (Ok value) = Ok value
 number place column (Err fault) = Err (fault_at place column (Number fault))
 
 -- the value, unless it passes a bound
-unfoldable pub ranged : Place → Column → ℕ → ℕ → ℕ → Result ℕ TableFault
+unfoldable pub ranged : Place → Column → ℕ → ℕ → ℕ → Read ℕ
 ranged place column low most value = do
   _ ← refuse (nat_lt value low) (fault_at place column (OutOfRange value low))
   _ ← refuse (nat_lt most value) (fault_at place column (OutOfRange value most))
   Ok value
 
 -- a whole number between two bounds
-unfoldable pub whole_in : Place → FoundColumn → ℕ → ℕ → List (List ℕ) → Result ℕ TableFault
+unfoldable pub whole_in : Place → FoundColumn → ℕ → ℕ → Row → Read ℕ
 whole_in place found low most row = do
   value ← number place found.column (whole_of (field_of found row))
   ranged place found.column low most value
 
 -- a whole number that is compared with another field of its row
-unfoldable pub value_in : Place → FoundColumn → List (List ℕ) → Result ℕ TableFault
+unfoldable pub value_in : Place → FoundColumn → Row → Read ℕ
 value_in place found row = number place found.column (whole_of (field_of found row))
 
 -- a probability in billionths, rounded down
-unfoldable pub probability_in : Place → FoundColumn → List (List ℕ) → Result ℕ TableFault
+unfoldable pub probability_in : Place → FoundColumn → Row → Read ℕ
 probability_in place found row = do
   value ← number place found.column (billionths_of (field_of found row))
   ranged place found.column 0 BILLION value
 
 -- an efficiency or a carryover in thousandths, rounded down: at least 1
-unfoldable pub share_in : Place → FoundColumn → List (List ℕ) → Result ℕ TableFault
+unfoldable pub share_in : Place → FoundColumn → Row → Read ℕ
 share_in place found row = do
   value ← number place found.column (billionths_of (field_of found row))
   ranged place found.column 1 THOUSAND (value / 1000000)
 
 -- the failure rate, then the repair rate
-unfoldable pub rates_in : Place → RateColumns → List (List ℕ) → Result Rates TableFault
+unfoldable pub rates_in : Place → RateColumns → Row → Read Rates
 rates_in place columns row = do
   f ← probability_in place columns.failure row
   r ← probability_in place columns.repair row
   Ok (record { f = f; r = r })
 
 -- not both rates are 0
-unfoldable pub some_rate_in : Place → RateColumns → Rates → Result (Unit {0}) TableFault
+unfoldable pub some_rate_in : Place → RateColumns → Rates → Read (Unit {0})
 some_rate_in place columns rates =
     refuse ((rates.f == 0) && (rates.r == 0)) (fault_at place columns.repair.column BothRatesZero)
 
 -- a name has a byte, and at most 64
-unfoldable pub name_bytes_in : Place → Column → List ℕ → Result (Unit {0}) TableFault
+unfoldable pub name_bytes_in : Place → Column → List ℕ → Read (Unit {0})
 name_bytes_in place column name = do
   _ ← refuse (length name == 0) (fault_at place column Empty)
-  refuse (nat_lt MOST_NAME_BYTES (length name)) (fault_at place column (OutOfRange (length name) MOST_NAME_BYTES))
+  refuse (nat_lt MOST_NAME_BYTES (length name))
+      (fault_at place column (OutOfRange (length name) MOST_NAME_BYTES))
 
 -- a name that differs from those above it
-unfoldable pub name_in : Place → FoundColumn → List (List ℕ) → List (List ℕ) → Result (List ℕ) TableFault
+unfoldable pub name_in : Place → FoundColumn → Names → Row → Read (List ℕ)
 name_in place found above row = do
   _ ← name_bytes_in place found.column (field_of found row)
   _ ← refuse (is_among (field_of found row) above) (fault_at place found.column NameTwice)
   Ok (field_of found row)
 
 -- the name of a zone, which isn't `hour`, as if that stood above
-unfoldable pub zone_name_in : Place → FoundColumn → List (List ℕ) → List (List ℕ) → Result (List ℕ) TableFault
+unfoldable pub zone_name_in : Place → FoundColumn → Names → Row → Read (List ℕ)
 zone_name_in place found above row = do
   _ ← refuse (bytes_eq (field_of found row) (codes "hour")) (fault_at place found.column NameTwice)
   name_in place found above row
 
-abbrev pub or_unknown : Place → Column → Option ℕ → Result ℕ TableFault
+abbrev pub or_unknown : Place → Column → Option ℕ → Read ℕ
 or_unknown place column None = Err (fault_at place column NameUnknown)
 or_unknown place column (Some at) = Ok at
 
 -- the place of the row that has this name, from 0
-unfoldable pub reference_in : Place → FoundColumn → List (List ℕ) → List (List ℕ) → Result ℕ TableFault
-reference_in place found names row = or_unknown place found.column (position (bytes_eq (field_of found row)) names)
+unfoldable pub reference_in : Place → FoundColumn → Names → Row → Read ℕ
+reference_in place found names row =
+    or_unknown place found.column (position (bytes_eq (field_of found row)) names)

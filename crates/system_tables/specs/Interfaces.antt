@@ -11,12 +11,13 @@ use Rattle.system_tables.specs.declared.faults.Place.{Place}
 use Rattle.system_tables.specs.declared.faults.TableFault.{TableFault}
 use Rattle.system_tables.specs.declared.interfaces.InterfaceColumns.{InterfaceColumns}
 use Rattle.system_tables.specs.Columns.{column_in}
-use Rattle.system_tables.specs.Faults.{◌>>=◌, fault_at, below, refuse, in_turn, table_in, shape_in}
+use Rattle.system_tables.specs.Faults.{Read, ◌>>=◌, fault_at, below, refuse, in_turn, table_in, shape_in}
 use Rattle.system_tables.specs.Fields.{whole_in, value_in, share_in, rates_in, some_rate_in, name_in, reference_in}
-use Rattle.system_tables.specs.Records.{records_of}
+use Rattle.system_tables.specs.Names.{Names}
+use Rattle.system_tables.specs.Records.{Row, Rows, records_of}
 
 -- the columns in the order of the definition
-unfoldable pub interface_columns_in : List (List ℕ) → Result InterfaceColumns TableFault
+unfoldable pub interface_columns_in : Row → Read InterfaceColumns
 interface_columns_in header = do
   name ← column_in Interfaces (Fixed 0) header (codes "name")
   start ← column_in Interfaces (Fixed 1) header (codes "from")
@@ -26,7 +27,7 @@ interface_columns_in header = do
   Ok (record { name = name; start = start; end = end; forward = forward; backward = backward })
 
 -- the interface of a row
-unfoldable pub interface_of : Place → InterfaceColumns → List (List ℕ) → List (List ℕ) → Result Interface TableFault
+unfoldable pub interface_of : Place → InterfaceColumns → Names → Row → Read Interface
 interface_of place columns zones row = do
   start ← reference_in place columns.start zones row
   end ← reference_in place columns.end zones row
@@ -37,10 +38,13 @@ interface_of place columns zones row = do
 
 abbrev pub with_interface : SystemParts → List ℕ → Interface → SystemParts
 with_interface above name interface =
-    record above { interfaces = above.interfaces ++ interface ∷ []; interface_names = above.interface_names ++ name ∷ [] }
+    record above {
+      interfaces = above.interfaces ++ interface ∷ [];
+      interface_names = above.interface_names ++ name ∷ [];
+    }
 
 -- a row, below the interfaces above it
-unfoldable pub interface_in : InterfaceColumns → ℕ → SystemParts → List (List ℕ) → Result SystemParts TableFault
+unfoldable pub interface_in : InterfaceColumns → ℕ → SystemParts → Row → Read SystemParts
 interface_in columns width above row = do
   _ ← shape_in (below Interfaces (interface_count above)) MOST_INTERFACES (interface_count above) width row
   name ← name_in (below Interfaces (interface_count above)) columns.name above.interface_names row
@@ -48,11 +52,11 @@ interface_in columns width above row = do
   Ok (with_interface above name interface)
 
 -- the header, then the rows in turn
-unfoldable pub interface_rows_in : SystemParts → List (List ℕ) → List (List (List ℕ)) → Result SystemParts TableFault
+unfoldable pub interface_rows_in : SystemParts → Row → Rows → Read SystemParts
 interface_rows_in above header rows = do
   columns ← interface_columns_in header
   in_turn (interface_in columns (length header)) above rows
 
 -- the interfaces of the table behind those that are there
-abbrev pub with_interfaces : SystemParts → List ℕ → Result SystemParts TableFault
+abbrev pub with_interfaces : SystemParts → List ℕ → Read SystemParts
 with_interfaces above bytes = table_in Interfaces (records_of bytes) (interface_rows_in above)

@@ -20,7 +20,9 @@ left_of r =
       row = map without_spaces (fields_of r.row);
       rest =
           if r.is_done then []
-          else map (map without_spaces) (all_from (reader_state r.reader) (source_of (λ s. Some s.now) r.reader));
+          else
+          map (map without_spaces)
+          (all_from (reader_state r.reader) (source_of (λ s. Some s.now) r.reader));
     }
 
 -- the reader stands between two records and reads as it was told

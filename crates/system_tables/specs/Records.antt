@@ -2,15 +2,23 @@
 use Rattle.std.specs.Prelude.{ℕ, ◌+◌, ◌==◌, ◌&&◌, List, [], ◌∷◌, take, map, length, nat_le, slice_index, Bool, if◌then◌else◌}
 use Rattle.csv.specs.Reading.{default_config, records, strip_bom}
 
+-- the fields of a record, and the records of a table
+abbrev pub Row : Type 0
+Row = List (List ℕ)
+
+abbrev pub Rows : Type 0
+Rows = List Row
+
 -- the record that was read last, and the records that are left
 pub record RecordsLeft : Type 0 where
-  pub row : List (List ℕ)
-  pub rest : List (List (List ℕ))
+  pub row : Row
+  pub rest : Rows
 
 -- the bytes begin with a byte order mark
 abbrev pub has_mark : List ℕ → Bool
 has_mark bytes =
-    nat_le 3 (length bytes) && (slice_index bytes 0 == 239) && (slice_index bytes 1 == 187) && (slice_index bytes 2 == 191)
+    nat_le 3 (length bytes) && (slice_index bytes 0 == 239) && (slice_index bytes 1 == 187)
+    && (slice_index bytes 2 == 191)
 
 -- a field without the spaces (32) in front
 unfoldable pub without_front : List ℕ → List ℕ
@@ -30,8 +38,8 @@ without_end field = take (spaces_at field) field
 abbrev pub without_spaces : List ℕ → List ℕ
 without_spaces field = without_end (without_front field)
 
--- The records of a table. One byte order mark in front is dropped, and `csv` drops one at the start of what it
--- reads. Its delimiter, quotes and line ends are the usual ones, records may differ in length, and no record is
--- taken for a header.
-abbrev pub records_of : List ℕ → List (List (List ℕ))
+-- The records of a table. One byte order mark in front is dropped, and `csv` drops one at the start of what
+-- it reads. Its delimiter, quotes and line ends are the usual ones, records may differ in length, and no record
+-- is taken for a header.
+abbrev pub records_of : List ℕ → Rows
 records_of bytes = map (map without_spaces) (records default_config (strip_bom (strip_bom bytes)))

@@ -3,6 +3,7 @@ use Rattle.std.specs.Prelude.{◌≡◌, ℕ, ◌≤◌, List, [], length}
 use Rattle.ra_base.specs.declared.limits.TheConstants.{MOST_ZONES, MOST_UNITS, MOST_INTERFACES, MOST_LINES, MOST_STORAGES, MOST_POOLED_MW}
 use Rattle.system_model.specs.Components.{pooled_capacity, pooled_charge, pooled_discharge}
 use Rattle.system_model.specs.System.{SystemParts, no_parts, unit_count, interface_count, line_count, storage_count}
+use Rattle.system_tables.specs.Names.{Names}
 
 -- the draft without the parts of the earlier tables
 abbrev pub behind_zones : SystemParts → SystemParts
@@ -18,17 +19,17 @@ abbrev pub behind_lines : SystemParts → SystemParts
 behind_lines s = record (behind_interfaces s) { lines = []; line_names = [] }
 
 -- the draft's zones have these names
-pub record AreZones (draft : SystemParts) (zones : List (List ℕ)) : Type 0 where
+pub record AreZones (draft : SystemParts) (zones : Names) : Type 0 where
   pub names : draft.zone_names ≡ zones
   pub most : length zones ≤ MOST_ZONES
 
 -- the draft has zones alone, and these are their names
-pub record AreZonesSoFar (draft : SystemParts) (zones : List (List ℕ)) : Type 0 where
+pub record AreZonesSoFar (draft : SystemParts) (zones : Names) : Type 0 where
   pub zones_are : AreZones draft zones
   pub later : behind_zones draft ≡ no_parts
 
 -- its units have these names, and this capacity together
-pub record AreUnitsSoFar (draft : SystemParts) (zones names : List (List ℕ)) (pooled : ℕ) : Type 0 where
+pub record AreUnitsSoFar (draft : SystemParts) (zones names : Names) (pooled : ℕ) : Type 0 where
   pub zones_are : AreZones draft zones
   pub names_are : draft.unit_names ≡ names
   pub size : length names ≡ unit_count draft
@@ -38,18 +39,18 @@ pub record AreUnitsSoFar (draft : SystemParts) (zones names : List (List ℕ)) (
   pub later : behind_units draft ≡ no_parts
 
 -- the draft's interfaces have these names
-pub record AreInterfaces (draft : SystemParts) (names : List (List ℕ)) : Type 0 where
+pub record AreInterfaces (draft : SystemParts) (names : Names) : Type 0 where
   pub names_are : draft.interface_names ≡ names
   pub size : length names ≡ interface_count draft
   pub most : length names ≤ MOST_INTERFACES
 
-pub record AreInterfacesSoFar (draft : SystemParts) (zones names : List (List ℕ)) : Type 0 where
+pub record AreInterfacesSoFar (draft : SystemParts) (zones names : Names) : Type 0 where
   pub zones_are : AreZones draft zones
   pub interfaces_are : AreInterfaces draft names
   pub later : behind_interfaces draft ≡ no_parts
 
 -- its lines have these names
-pub record AreLinesSoFar (draft : SystemParts) (zones interfaces names : List (List ℕ)) : Type 0 where
+pub record AreLinesSoFar (draft : SystemParts) (zones interfaces names : Names) : Type 0 where
   pub zones_are : AreZones draft zones
   pub interfaces_are : AreInterfaces draft interfaces
   pub names_are : draft.line_names ≡ names
@@ -58,7 +59,7 @@ pub record AreLinesSoFar (draft : SystemParts) (zones interfaces names : List (L
   pub later : behind_lines draft ≡ no_parts
 
 -- its storages have these names, and these capacities together
-pub record AreStoragesSoFar (draft : SystemParts) (zones names : List (List ℕ)) (charge discharge : ℕ) : Type 0 where
+pub record AreStoragesSoFar (draft : SystemParts) (zones names : Names) (charge discharge : ℕ) : Type 0 where
   pub zones_are : AreZones draft zones
   pub names_are : draft.storage_names ≡ names
   pub size : length names ≡ storage_count draft
@@ -70,14 +71,14 @@ pub record AreStoragesSoFar (draft : SystemParts) (zones names : List (List ℕ)
   pub later : draft.hours ≡ []
 
 -- the units are read, the lines are, the storages are
-pub record AreUnitsRead (draft : SystemParts) (zones : List (List ℕ)) : Type 0 where
+pub record AreUnitsRead (draft : SystemParts) (zones : Names) : Type 0 where
   pub zones_are : AreZones draft zones
   pub later : behind_units draft ≡ no_parts
 
-pub record AreLinesRead (draft : SystemParts) (zones : List (List ℕ)) : Type 0 where
+pub record AreLinesRead (draft : SystemParts) (zones : Names) : Type 0 where
   pub zones_are : AreZones draft zones
   pub later : behind_lines draft ≡ no_parts
 
-pub record AreStoragesRead (draft : SystemParts) (zones : List (List ℕ)) : Type 0 where
+pub record AreStoragesRead (draft : SystemParts) (zones : Names) : Type 0 where
   pub zones_are : AreZones draft zones
   pub later : draft.hours ≡ []

@@ -11,12 +11,13 @@ use Rattle.system_tables.specs.declared.faults.Place.{Place}
 use Rattle.system_tables.specs.declared.faults.TableFault.{TableFault}
 use Rattle.system_tables.specs.declared.storages.StorageColumns.{StorageColumns}
 use Rattle.system_tables.specs.Columns.{column_in}
-use Rattle.system_tables.specs.Faults.{◌>>=◌, fault_at, below, refuse, in_turn, table_in, shape_in}
+use Rattle.system_tables.specs.Faults.{Read, ◌>>=◌, fault_at, below, refuse, in_turn, table_in, shape_in}
 use Rattle.system_tables.specs.Fields.{whole_in, value_in, share_in, rates_in, some_rate_in, name_in, reference_in}
-use Rattle.system_tables.specs.Records.{records_of}
+use Rattle.system_tables.specs.Names.{Names}
+use Rattle.system_tables.specs.Records.{Row, Rows, records_of}
 
 -- the columns in the order of the definition
-unfoldable pub storage_columns_in : List (List ℕ) → Result StorageColumns TableFault
+unfoldable pub storage_columns_in : Row → Read StorageColumns
 storage_columns_in header = do
   name ← column_in Storages (Fixed 0) header (codes "name")
   zone ← column_in Storages (Fixed 1) header (codes "zone")
@@ -43,7 +44,7 @@ storage_columns_in header = do
   })
 
 -- The storage of a row. What it starts with is compared with what it holds behind the last column.
-unfoldable pub storage_of : Place → StorageColumns → List (List ℕ) → List (List ℕ) → Result Storage TableFault
+unfoldable pub storage_of : Place → StorageColumns → Names → Row → Read Storage
 storage_of place columns zones row = do
   zone ← reference_in place columns.zone zones row
   charge ← whole_in place columns.charge 0 MOST_POOLED_MW row
@@ -70,26 +71,31 @@ storage_of place columns zones row = do
 
 abbrev pub with_storage : SystemParts → List ℕ → Storage → SystemParts
 with_storage above name storage =
-    record above { storages = above.storages ++ storage ∷ []; storage_names = above.storage_names ++ name ∷ [] }
+    record above {
+      storages = above.storages ++ storage ∷ [];
+      storage_names = above.storage_names ++ name ∷ [];
+    }
 
 -- a row, below the storages above it
-unfoldable pub storage_in : StorageColumns → ℕ → SystemParts → List (List ℕ) → Result SystemParts TableFault
+unfoldable pub storage_in : StorageColumns → ℕ → SystemParts → Row → Read SystemParts
 storage_in columns width above row = do
   _ ← shape_in (below Storages (storage_count above)) MOST_STORAGES (storage_count above) width row
   name ← name_in (below Storages (storage_count above)) columns.name above.storage_names row
   storage ← storage_of (below Storages (storage_count above)) columns above.zone_names row
   _ ← refuse (nat_lt MOST_POOLED_MW (pooled_charge above.storages + storage.charge))
-      (fault_at (below Storages (storage_count above)) columns.charge.column (OutOfRange (pooled_charge above.storages + storage.charge) MOST_POOLED_MW))
+      (fault_at (below Storages (storage_count above)) columns.charge.column
+      (OutOfRange (pooled_charge above.storages + storage.charge) MOST_POOLED_MW))
   _ ← refuse (nat_lt MOST_POOLED_MW (pooled_discharge above.storages + storage.discharge))
-      (fault_at (below Storages (storage_count above)) columns.discharge.column (OutOfRange (pooled_discharge above.storages + storage.discharge) MOST_POOLED_MW))
+      (fault_at (below Storages (storage_count above)) columns.discharge.column
+      (OutOfRange (pooled_discharge above.storages + storage.discharge) MOST_POOLED_MW))
   Ok (with_storage above name storage)
 
 -- the header, then the rows in turn
-unfoldable pub storage_rows_in : SystemParts → List (List ℕ) → List (List (List ℕ)) → Result SystemParts TableFault
+unfoldable pub storage_rows_in : SystemParts → Row → Rows → Read SystemParts
 storage_rows_in above header rows = do
   columns ← storage_columns_in header
   in_turn (storage_in columns (length header)) above rows
 
 -- the storages of the table behind those that are there
-abbrev pub with_storages : SystemParts → List ℕ → Result SystemParts TableFault
+abbrev pub with_storages : SystemParts → List ℕ → Read SystemParts
 with_storages above bytes = table_in Storages (records_of bytes) (storage_rows_in above)

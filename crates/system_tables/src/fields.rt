@@ -219,7 +219,8 @@ pub(crate) fn new_zone_name(
     row: &Records<'_>,
     names: &mut Names,
 ) -> Result<(), ReadError>
-    ensures exact { GivesNow (zone_name_in place found names.old row.now.row) result (field_of found row.now.row) }
+    ensures exact { GivesNow (zone_name_in place found names.old row.now.row) result
+        (field_of found row.now.row) }
     ensures added { OnOk result (names.new ≡ names.old ++ field_of found row.now.row ∷ []) }
     ensures name { OnOk result (IsName (field_of found row.now.row)) }
 {

@@ -46,7 +46,8 @@ fn add_zone_columns(
 ) -> Result<(), ReadError>
     requires few { length zones.now ≤ MOST_ZONES }
     requires none { columns.old.items ≡ [] }
-    ensures exact { GivesNow (in_turn (next_column_in required table header.now.row) [] zones.now) result columns.new.items }
+    ensures exact { GivesNow (in_turn (next_column_in required table header.now.row) [] zones.now) result
+        columns.new.items }
     ensures size { OnOk result (length columns.new.items ≡ length zones.now) }
 {
     for zone in 0..zones.len() {
@@ -65,7 +66,8 @@ fn add_zone_column(
     columns: &mut Vec<Option<FoundColumn>>,
 ) -> Result<(), ReadError>
     requires few { length columns.old.items < 255 }
-    ensures exact { GivesNow (next_column_in required table header.now.row columns.old.items name.now) result columns.new.items }
+    ensures exact { GivesNow (next_column_in required table header.now.row columns.old.items name.now) result
+        columns.new.items }
     ensures size { OnOk result (length columns.new.items ≡ length columns.old.items + 1) }
 {
     let zone = Column::Zone(columns.len() as u8);
@@ -245,7 +247,8 @@ fn read_rows(
     requires limit { limit ≤ MOST_HOURS }
     requires no_columns { columns.old.items ≡ [] }
     requires none { amounts.old.items ≡ [] }
-    ensures exact { IsHoursRead (table_in table rows.old.rest (hour_rows_in required table limit zones.now)) result amounts.new.items }
+    ensures exact { IsHoursRead (table_in table rows.old.rest (hour_rows_in required table limit zones.now)) result
+        amounts.new.items }
     ensures room { OnOk result (length amounts.new.items ≤ limit) }
     ensures rows { OnOk result (All (IsAmountRow (length zones.now)) amounts.new.items) }
 {
@@ -269,7 +272,8 @@ fn read_amounts(
     requires few { length zones.now ≤ MOST_ZONES }
     requires limit { limit ≤ MOST_HOURS }
     requires none { amounts.old.items ≡ [] }
-    ensures exact { IsHoursRead (amounts_in required table limit zones.now bytes.now) result amounts.new.items }
+    ensures exact { IsHoursRead (amounts_in required table limit zones.now bytes.now) result
+        amounts.new.items }
     ensures room { OnOk result (length amounts.new.items ≤ limit) }
     ensures rows { OnOk result (All (IsAmountRow (length zones.now)) amounts.new.items) }
 {

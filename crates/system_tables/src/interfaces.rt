@@ -110,7 +110,8 @@ fn add_interfaces(
     rows: &mut Records<'_>,
 ) -> Result<(), ReadError>
     requires so_far { AreInterfacesSoFar draft.old zones.now names.old }
-    ensures exact { GivesNow (in_turn (interface_in columns.now width) draft.old rows.old.rest) result draft.new }
+    ensures exact { GivesNow (in_turn (interface_in columns.now width) draft.old rows.old.rest) result
+        draft.new }
     ensures so_far { OnOk result (AreInterfacesSoFar draft.new zones.now names.new) }
 {
     'rows: while rows.next()? {
@@ -128,7 +129,8 @@ fn read_rows(
     rows: &mut Records<'_>,
 ) -> Result<(), ReadError>
     requires so_far { AreInterfacesSoFar draft.old zones.now names.old }
-    ensures exact { GivesNow (table_in TableName.Interfaces rows.old.rest (interface_rows_in draft.old)) result draft.new }
+    ensures exact { GivesNow (table_in TableName.Interfaces rows.old.rest (interface_rows_in draft.old)) result
+        draft.new }
     ensures so_far { OnOk result (AreInterfacesSoFar draft.new zones.now names.new) }
 {
     header(TableName::Interfaces, rows)?;

@@ -113,7 +113,8 @@ fn add_lines(
     rows: &mut Records<'_>,
 ) -> Result<(), ReadError>
     requires so_far { AreLinesSoFar draft.old zones.now interfaces.now names.old }
-    ensures exact { GivesNow (in_turn (line_in columns.now width) draft.old rows.old.rest) result draft.new }
+    ensures exact { GivesNow (in_turn (line_in columns.now width) draft.old rows.old.rest) result
+        draft.new }
     ensures so_far { OnOk result (AreLinesRead draft.new zones.now) }
 {
     'rows: while rows.next()? {
@@ -132,7 +133,8 @@ fn read_rows(
     rows: &mut Records<'_>,
 ) -> Result<(), ReadError>
     requires so_far { AreLinesSoFar draft.old zones.now interfaces.now names.old }
-    ensures exact { GivesNow (table_in TableName.Lines rows.old.rest (line_rows_in draft.old)) result draft.new }
+    ensures exact { GivesNow (table_in TableName.Lines rows.old.rest (line_rows_in draft.old)) result
+        draft.new }
     ensures so_far { OnOk result (AreLinesRead draft.new zones.now) }
 {
     header(TableName::Lines, rows)?;

@@ -45,8 +45,8 @@ impl<'a> Records<'a> {
         }
     }
 
-    /// Reads the next record, and says whether there was one. A table's bytes stand in memory, so reading them
-    /// fails for want of memory alone.
+    /// Reads the next record, and says whether there was one. A table's bytes stand in memory, so reading
+    /// them fails for want of memory alone.
     pub(crate) fn next(&mut self) -> Result<bool, OutOfMemory>
         ensures found { result ≡ Ok true → self.old.rest ≡ self.new.row ∷ self.new.rest }
         ensures none { result ≡ Ok false → self.old.rest ≡ [] }

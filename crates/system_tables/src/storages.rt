@@ -105,7 +105,8 @@ fn storage_of(
 
 // That a storage doesn't start with more than it holds.
 fn start_within(place: Place, found: FoundColumn, start: u64, energy: u64) -> Result<(), TableFault>
-    ensures exact { result ≡ refuse (nat_lt energy start) (fault_at place found.column (Cause.OutOfRange start energy)) }
+    ensures exact { result ≡ refuse (nat_lt energy start)
+        (fault_at place found.column (Cause.OutOfRange start energy)) }
     ensures within { OnOk result (start ≤ energy) }
 {
     refuse(
@@ -164,7 +165,8 @@ fn add_storages(
     rows: &mut Records<'_>,
 ) -> Result<(), ReadError>
     requires so_far { AreStoragesSoFar draft.old zones.now names.old 0 0 }
-    ensures exact { GivesNow (in_turn (storage_in columns.now width) draft.old rows.old.rest) result draft.new }
+    ensures exact { GivesNow (in_turn (storage_in columns.now width) draft.old rows.old.rest) result
+        draft.new }
     ensures so_far { OnOk result (AreStoragesRead draft.new zones.now) }
 {
     let mut charge = 0;
@@ -193,7 +195,8 @@ fn read_rows(
     rows: &mut Records<'_>,
 ) -> Result<(), ReadError>
     requires so_far { AreStoragesSoFar draft.old zones.now names.old 0 0 }
-    ensures exact { GivesNow (table_in TableName.Storages rows.old.rest (storage_rows_in draft.old)) result draft.new }
+    ensures exact { GivesNow (table_in TableName.Storages rows.old.rest (storage_rows_in draft.old)) result
+        draft.new }
     ensures so_far { OnOk result (AreStoragesRead draft.new zones.now) }
 {
     header(TableName::Storages, rows)?;

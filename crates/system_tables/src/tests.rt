@@ -2,6 +2,7 @@ use crate::{Cause, Column, ReadError, TableFault, read_system};
 use decimal_text::NumberFault;
 use ra_base::{OutOfMemory, TableBytes, TableName, Text};
 use std::alloc::Global;
+use std::process::Abort;
 use system_model::{Interface, Line, Rates, Storage, System, Unit};
 
 // The texts of the tables of a case.
@@ -452,33 +453,32 @@ const FULL: Tables = Tables {
     variable: Some("hour,hours\n1,0\n2,5\n"),
 };
 
-#[test]
-fn tables_are_read_or_their_first_fault_is_named(rt: HostRuntime) {
-    for (tables, fault) in &FAULTS {
-        assert_eq!(rt; fault_of(rt.alloc(), *tables), Some(*fault));
-    }
-    let Ok(system) = read(rt.alloc(), SPREADSHEET) else {
-        panic!(rt; "a spreadsheet is refused");
-    };
+fn the_spreadsheet_is_read(rt: &impl Abort, system: &System) {
     assert_eq!(rt; system.units(), 2);
     assert_eq!(rt; system.unit_name(0), b"U, one".as_slice());
     let rates = Rates {
         f: 20_000_000,
         r: 980_000_000,
     };
-    for (at, capacity) in [(0, 3), (1, 5)] {
-        let unit = Unit {
-            zone: 0,
-            capacity,
-            rates,
-        };
-        assert_eq!(rt; system.unit(at), unit);
-    }
-    let Ok(full) = read(rt.alloc(), FULL) else {
-        panic!(rt; "seven tables are refused");
+    let gas = Unit {
+        zone: 0,
+        capacity: 3,
+        rates,
     };
-    assert!(rt; full.zones() == 2 && full.units() == 1 && full.hours() == 2);
-    assert!(rt; full.interfaces() == 1 && full.lines() == 1 && full.storages() == 1);
+    let coal = Unit {
+        zone: 0,
+        capacity: 5,
+        rates,
+    };
+    assert_eq!(rt; system.unit(0), gas);
+    assert_eq!(rt; system.unit(1), coal);
+}
+
+fn the_parts_are_read(rt: &impl Abort, system: &System) {
+    assert_eq!(rt; system.units(), 1);
+    assert_eq!(rt; system.interfaces(), 1);
+    assert_eq!(rt; system.lines(), 1);
+    assert_eq!(rt; system.storages(), 1);
     let unit = Unit {
         zone: 1,
         capacity: 155,
@@ -487,14 +487,12 @@ fn tables_are_read_or_their_first_fault_is_named(rt: HostRuntime) {
             r: 500_000_000,
         },
     };
-    assert_eq!(rt; full.unit(0), unit);
     let tie = Interface {
         from: 0,
         to: 1,
         forward: 400,
         backward: 300,
     };
-    assert_eq!(rt; full.interface(0), tie);
     let circuit = Line {
         interface: 0,
         forward: 250,
@@ -504,7 +502,6 @@ fn tables_are_read_or_their_first_fault_is_named(rt: HostRuntime) {
             r: 100_000_000,
         },
     };
-    assert_eq!(rt; full.line(0), circuit);
     let pumps = Storage {
         zone: 0,
         charge: 100,
@@ -519,16 +516,35 @@ fn tables_are_read_or_their_first_fault_is_named(rt: HostRuntime) {
             r: 1_000_000_000,
         },
     };
-    assert_eq!(rt; full.storage(0), pumps);
-    for (hour, zone, load, variable) in [
-        (0, 0, 50, 0),
-        (0, 1, 70, 0),
-        (1, 0, 50, 0),
-        (1, 1, 80, 5),
-    ] {
-        assert_eq!(rt;
-            (full.load(hour, zone), full.variable(hour, zone)),
-            (load, variable)
-        );
+    assert_eq!(rt; system.unit(0), unit);
+    assert_eq!(rt; system.interface(0), tie);
+    assert_eq!(rt; system.line(0), circuit);
+    assert_eq!(rt; system.storage(0), pumps);
+}
+
+fn the_hours_are_read(rt: &impl Abort, system: &System) {
+    assert_eq!(rt; system.zones(), 2);
+    assert_eq!(rt; system.hours(), 2);
+    assert_eq!(rt; system.load(0, 0), 50);
+    assert_eq!(rt; system.load(0, 1), 70);
+    assert_eq!(rt; system.load(1, 1), 80);
+    assert_eq!(rt; system.variable(0, 1), 0);
+    assert_eq!(rt; system.variable(1, 0), 0);
+    assert_eq!(rt; system.variable(1, 1), 5);
+}
+
+#[test]
+fn tables_are_read_or_their_first_fault_is_named(rt: HostRuntime) {
+    for (tables, fault) in &FAULTS {
+        assert_eq!(rt; fault_of(rt.alloc(), *tables), Some(*fault));
     }
+    let Ok(spreadsheet) = read(rt.alloc(), SPREADSHEET) else {
+        panic!(rt; "a spreadsheet is refused");
+    };
+    the_spreadsheet_is_read(&rt, &spreadsheet);
+    let Ok(full) = read(rt.alloc(), FULL) else {
+        panic!(rt; "seven tables are refused");
+    };
+    the_parts_are_read(&rt, &full);
+    the_hours_are_read(&rt, &full);
 }

@@ -110,7 +110,8 @@ fn add_units(
     rows: &mut Records<'_>,
 ) -> Result<(), ReadError>
     requires so_far { AreUnitsSoFar draft.old zones.now names.old 0 }
-    ensures exact { GivesNow (in_turn (unit_in columns.now width) draft.old rows.old.rest) result draft.new }
+    ensures exact { GivesNow (in_turn (unit_in columns.now width) draft.old rows.old.rest) result
+        draft.new }
     ensures so_far { OnOk result (AreUnitsRead draft.new zones.now) }
 {
     let mut pooled = 0;
@@ -129,7 +130,8 @@ fn read_rows(
     rows: &mut Records<'_>,
 ) -> Result<(), ReadError>
     requires so_far { AreUnitsSoFar draft.old zones.now names.old 0 }
-    ensures exact { GivesNow (table_in TableName.Units rows.old.rest (unit_rows_in draft.old)) result draft.new }
+    ensures exact { GivesNow (table_in TableName.Units rows.old.rest (unit_rows_in draft.old)) result
+        draft.new }
     ensures so_far { OnOk result (AreUnitsRead draft.new zones.now) }
 {
     header(TableName::Units, rows)?;

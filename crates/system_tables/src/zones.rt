@@ -77,7 +77,8 @@ fn add_zones(
 // That there is a zone.
 #[tactic(auto, unfolding(crate::specs::Zones::some_zone_in))]
 fn some_zone(names: &Names) -> Result<(), TableFault>
-    ensures exact { (s : SystemParts) → s.zone_names ≡ names.now → MatchResult result (λ _. some_zone_in s ≡ Ok s) (λ e. some_zone_in s ≡ Err e) }
+    ensures exact { (s : SystemParts) → s.zone_names ≡ names.now →
+        MatchResult result (λ _. some_zone_in s ≡ Ok s) (λ e. some_zone_in s ≡ Err e) }
     ensures some { OnOk result (0 < length names.now) }
 {
     let place = Place {
