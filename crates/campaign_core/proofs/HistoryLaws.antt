@@ -1,6 +1,6 @@
 -- Histories that grow by an entry, their beginnings, and that a legal one is so from its first entry on.
-use Rattle.std.proofs.Common.{◌≡◌, ℕ, zero, suc, ◌+◌, ◌-◌, ◌<◌, ◌≤◌, ◌==◌, inl, inr, Bool, true, false, cond, ◌&&◌, ◌||◌, not, List, [], ◌∷◌, ◌++◌, length, sum_by, refl, ap, sym, ◌∙◌, subst, arith, append_assoc}
-use Rattle.std.specs.List.{filter, flat_map, list_any}
+use Rattle.std.proofs.Common.{◌≡◌, ℕ, ◌+◌, ◌==◌, Bool, true, false, ◌||◌, List, [], ◌∷◌, ◌++◌, sum_by, refl, ap, sym, ◌∙◌, subst, arith, append_assoc}
+use Rattle.std.specs.List.{list_any}
 use Rattle.std.proofs.lemmas.List.{append-nil, same_from_push}
 use Rattle.std.proofs.lemmas.List.Folds.{list_any-append}
 use Rattle.std.proofs.lemmas.List.Sums.{sum_by-append}
@@ -8,11 +8,8 @@ use Rattle.std.proofs.lemmas.List.Elements.{filter-append}
 use Rattle.std.proofs.lemmas.Grind.{flat_map-append}
 use mathlib.Core.List.{IsPrefix}
 use Rattle.campaign_core.specs.declared.gate.Gate.{Gate}
-use Rattle.campaign_core.specs.declared.run.SampleRange.{SampleRange}
-use Rattle.campaign_core.specs.declared.call.Call.{Call}
-use Rattle.campaign_core.specs.declared.call.Reply.{Reply}
 use Rattle.campaign_core.specs.declared.call.Entry.{Entry}
-use Rattle.campaign_core.specs.History.{entry, range_in, claimed_in, raised_in, deposit_in, is_seal, is_cancel, gate_of, ranges_of, deposits_of, calls_of, Follows, IsLegal}
+use Rattle.campaign_core.specs.History.{range_in, claimed_in, raised_in, deposit_in, is_seal, is_cancel, gate_of, ranges_of, deposits_of, calls_of, Follows, IsLegal}
 use Rattle.campaign_core.specs.Machine.{gate_after}
 
 -- ---- what a history comes to, one entry longer

@@ -1,10 +1,10 @@
 -- The loop that joins ascending runs in place.
-use Rattle.std.proofs.Common.{◌≡◌, ◌≢◌, ℕ, zero, suc, ◌+◌, ◌-◌, ◌<◌, ◌≤◌, inl, inr, List, [], ◌∷◌, ◌++◌, map, length, get_or, take, drop, set, length-set, refl, ap, sym, ◌∙◌, subst, arith, add-one, ◌==◌, true, false}
+use Rattle.std.proofs.Common.{◌≡◌, ℕ, suc, ◌+◌, ◌-◌, ◌<◌, ◌≤◌, List, [], ◌∷◌, ◌++◌, map, length, get_or, take, drop, set, length-set, refl, ap, sym, ◌∙◌, subst, arith, add-one, ◌==◌, true, false}
 use Rattle.std.proofs.lemmas.Bool.{eqb-true, eqb-false}
-use Rattle.std.proofs.lemmas.List.{get_or_default, take_more, take_more_set, drop_more, drop-drop, drop-set-lt, get_or-drop, take_at}
+use Rattle.std.proofs.lemmas.List.{get_or_default, take_more, take_more_set, drop_more, drop-drop, drop-set-lt, get_or-drop}
 use Rattle.campaign_core.specs.declared.run.Run.{Run}
-use Rattle.campaign_core.specs.Ranges.{run, samples_of, total, AreSame}
-use Rattle.campaign_core.specs.Joining.{Ascends, Spaced, IsJoined}
+use Rattle.campaign_core.specs.Ranges.{run, samples_of, AreSame}
+use Rattle.campaign_core.specs.Joining.{Ascends, Spaced}
 use Rattle.campaign_core.proofs.RunSteps.{EndBelow, end_below_push, end_below_front, spaced_push, spaced_longer, spaced_last, joined_push, joined_longer}
 
 -- of the first i of xs, which are joined, as many runs as said stand in front of ys, and from i on ys is as it was

@@ -7,3 +7,4 @@ pub mod WithoutLaws
 pub mod HistoryLaws
 pub mod MachineLaws
 pub mod ReplyLaws
+pub mod PlayLaws

@@ -1,5 +1,5 @@
 -- A machine stays within the limits, and stands for the history of its calls.
-use Rattle.std.proofs.Common.{◌≡◌, ℕ, zero, suc, ◌+◌, ◌-◌, ◌<◌, ◌≤◌, ◌==◌, inl, inr, Bool, true, false, cond, ◌&&◌, ◌||◌, not, List, [], ◌∷◌, ◌++◌, length, get_or, map, take, drop, slice_get, Some, Result, Ok, Err, IfOk, All, min, nat_lt, refl, ap, sym, ◌∙◌, subst, arith, append_assoc}
+use Rattle.std.proofs.Common.{◌≡◌, ℕ, zero, suc, ◌+◌, ◌-◌, ◌<◌, ◌≤◌, ◌==◌, inl, inr, Bool, true, false, cond, ◌||◌, List, [], ◌∷◌, ◌++◌, length, get_or, map, take, drop, slice_get, Some, Result, Ok, Err, IfOk, All, min, nat_lt, refl, ap, sym, ◌∙◌, subst, arith, append_assoc}
 use Rattle.std.proofs.lemmas.Bool.{cases_Bool, cases_lt, eqb-true, eqb-false, ltb-true, ltb-false, false_from_ne_true}
 use Rattle.std.proofs.lemmas.Bool.Decides.{nat_tests}
 use Rattle.std.proofs.lemmas.List.{append-nil, map_push, take_more}
@@ -12,15 +12,15 @@ use Rattle.campaign_core.specs.declared.call.Call.{Call}
 use Rattle.campaign_core.specs.declared.call.Call.TheVariants.{Claim, Extend, Seal, Cancel, Deposit}
 use Rattle.campaign_core.specs.declared.call.Call.TheVariants.{Progress as AskProgress, Interim as AskInterim}
 use Rattle.campaign_core.specs.declared.call.Reply.{Reply}
-use Rattle.campaign_core.specs.declared.call.Reply.TheVariants.{Range, Idle, Drained, Cancelled, Now, Sealed, TooMany, Marked, Progress, Deposited, Interim}
+use Rattle.campaign_core.specs.declared.call.Reply.TheVariants.{Range, Idle, Drained, Cancelled, Now, Sealed, TooMany, Marked}
 use Rattle.campaign_core.specs.declared.call.Entry.{Entry}
 use Rattle.campaign_core.specs.declared.run.Run.{Run}
-use Rattle.campaign_core.specs.Ranges.{range, run, samples_of, is_same, has_range, has_sample, without, times, weight_of, total, AreSame, AreDisjoint, AreFilled}
-use Rattle.campaign_core.specs.History.{entry, range_in, claimed_in, raised_in, deposit_in, claim_reply, extend_reply, reply_of, gate_of, ranges_of, deposits_of, out_of, may_come, Follows, IsLegal}
+use Rattle.campaign_core.specs.Ranges.{range, run, samples_of, has_range, has_sample, without, weight_of, total, AreDisjoint, AreFilled}
+use Rattle.campaign_core.specs.History.{entry, range_in, deposit_in, claim_reply, extend_reply, reply_of, gate_of, ranges_of, deposits_of, out_of, may_come, IsLegal}
 use Rattle.campaign_core.specs.Joining.{AreRunnable}
-use Rattle.campaign_core.specs.Machine.{Machine, StandsFor, IsAllowed, IsSound, gate_after, after}
-use Rattle.campaign_core.proofs.Totals.{weight-none, weight-more, weight-cut, total-nil, total-cons, total-append, total-one, total_push, times-nil, times-cons, times-append, times_same, same_trans, same_sym, disjoint_same, disjoint_one, disjoint_left, disjoint_right}
-use Rattle.campaign_core.proofs.WithoutLaws.{has-without, has-nil, filled_append, filled_left, filled_right, filled_without, without-none, without-append, without-both, without-absent, without-nil, without-keeps, without-place, total-taken, has_times, first_inside, has_filled}
+use Rattle.campaign_core.specs.Machine.{Machine, StandsFor, IsAllowed, IsSound, after}
+use Rattle.campaign_core.proofs.Totals.{weight-none, weight-more, weight-cut, total-nil, total-cons, total-append, total-one, total_push, times-nil, times-cons, times-append, times_same, same_sym, disjoint_same, disjoint_one, disjoint_left, disjoint_right}
+use Rattle.campaign_core.proofs.WithoutLaws.{has-without, filled_append, filled_left, filled_right, filled_without, without-none, without-append, without-both, without-nil, without-keeps, without-place, total-taken, has_times, first_inside, has_filled}
 use Rattle.campaign_core.proofs.HistoryLaws.{gate-nil, gate_push, ranges-nil, ranges_push, deposits-nil, deposits_push, legal-nil, legal_push, legal_by_pushes}
 
 -- ---- a call that gives out and deposits nothing, and raises nothing
@@ -47,36 +47,36 @@ same_list os = without-none (os ++ []) ∙ append-nil os
 
 pub after_mark : (m : Machine) (s c : Bool)
     → ◌≡◌ {A = Machine}
-      (record { opening = m.opening; block = m.block; gate = record { next = m.gate.next + 0; target = m.gate.target + 0; sealed = m.gate.sealed || s; cancelled = m.gate.cancelled || c }; deposited = m.deposited ++ []; out = without [] (m.out ++ []) })
-      (record { opening = m.opening; block = m.block; gate = record { next = m.gate.next; target = m.gate.target; sealed = m.gate.sealed || s; cancelled = m.gate.cancelled || c }; deposited = m.deposited; out = m.out })
+    (record { opening = m.opening; block = m.block; gate = record { next = m.gate.next + 0; target = m.gate.target + 0; sealed = m.gate.sealed || s; cancelled = m.gate.cancelled || c }; deposited = m.deposited ++ []; out = without [] (m.out ++ []) })
+    (record { opening = m.opening; block = m.block; gate = record { next = m.gate.next; target = m.gate.target; sealed = m.gate.sealed || s; cancelled = m.gate.cancelled || c }; deposited = m.deposited; out = m.out })
 after_mark m s c =
     machine_is m.opening m.block _ _ _ _ _ _ (gate_is _ _ _ _ _ _ _ _ (omega arith) (omega arith) refl refl) (append-nil m.deposited) (same_list m.out)
 
 pub after_nothing : (m : Machine)
     → ◌≡◌ {A = Machine}
-      (record { opening = m.opening; block = m.block; gate = record { next = m.gate.next + 0; target = m.gate.target + 0; sealed = m.gate.sealed || false; cancelled = m.gate.cancelled || false }; deposited = m.deposited ++ []; out = without [] (m.out ++ []) })
-      m
+    (record { opening = m.opening; block = m.block; gate = record { next = m.gate.next + 0; target = m.gate.target + 0; sealed = m.gate.sealed || false; cancelled = m.gate.cancelled || false }; deposited = m.deposited ++ []; out = without [] (m.out ++ []) })
+    m
 after_nothing m =
     machine_is m.opening m.block _ _ _ _ _ _ (gate_is _ _ _ _ _ _ _ _ (omega arith) (omega arith) (or_nothing m.gate.sealed) (or_nothing m.gate.cancelled)) (append-nil m.deposited) (same_list m.out)
 
 pub after_claimed : (m : Machine) (first count : ℕ)
     → ◌≡◌ {A = Machine}
-      (record { opening = m.opening; block = m.block; gate = record { next = m.gate.next + count; target = m.gate.target + 0; sealed = m.gate.sealed || false; cancelled = m.gate.cancelled || false }; deposited = m.deposited ++ []; out = without [] (m.out ++ range first count ∷ []) })
-      (record { opening = m.opening; block = m.block; gate = record { next = m.gate.next + count; target = m.gate.target; sealed = m.gate.sealed; cancelled = m.gate.cancelled }; deposited = m.deposited; out = m.out ++ range first count ∷ [] })
+    (record { opening = m.opening; block = m.block; gate = record { next = m.gate.next + count; target = m.gate.target + 0; sealed = m.gate.sealed || false; cancelled = m.gate.cancelled || false }; deposited = m.deposited ++ []; out = without [] (m.out ++ range first count ∷ []) })
+    (record { opening = m.opening; block = m.block; gate = record { next = m.gate.next + count; target = m.gate.target; sealed = m.gate.sealed; cancelled = m.gate.cancelled }; deposited = m.deposited; out = m.out ++ range first count ∷ [] })
 after_claimed m first count =
     machine_is m.opening m.block _ _ _ _ _ _ (gate_is _ _ _ _ _ _ _ _ refl (omega arith) (or_nothing m.gate.sealed) (or_nothing m.gate.cancelled)) (append-nil m.deposited) (without-none (m.out ++ range first count ∷ []))
 
 pub after_raised : (m : Machine) (more : ℕ)
     → ◌≡◌ {A = Machine}
-      (record { opening = m.opening; block = m.block; gate = record { next = m.gate.next + 0; target = m.gate.target + more; sealed = m.gate.sealed || false; cancelled = m.gate.cancelled || false }; deposited = m.deposited ++ []; out = without [] (m.out ++ []) })
-      (record { opening = m.opening; block = m.block; gate = record { next = m.gate.next; target = m.gate.target + more; sealed = m.gate.sealed; cancelled = m.gate.cancelled }; deposited = m.deposited; out = m.out })
+    (record { opening = m.opening; block = m.block; gate = record { next = m.gate.next + 0; target = m.gate.target + more; sealed = m.gate.sealed || false; cancelled = m.gate.cancelled || false }; deposited = m.deposited ++ []; out = without [] (m.out ++ []) })
+    (record { opening = m.opening; block = m.block; gate = record { next = m.gate.next; target = m.gate.target + more; sealed = m.gate.sealed; cancelled = m.gate.cancelled }; deposited = m.deposited; out = m.out })
 after_raised m more =
     machine_is m.opening m.block _ _ _ _ _ _ (gate_is _ _ _ _ _ _ _ _ (omega arith) refl (or_nothing m.gate.sealed) (or_nothing m.gate.cancelled)) (append-nil m.deposited) (same_list m.out)
 
 pub after_deposited : (m : Machine) (r : SampleRange)
     → ◌≡◌ {A = Machine}
-      (record { opening = m.opening; block = m.block; gate = record { next = m.gate.next + 0; target = m.gate.target + 0; sealed = m.gate.sealed || false; cancelled = m.gate.cancelled || false }; deposited = m.deposited ++ r ∷ []; out = without (r ∷ []) (m.out ++ []) })
-      (record { opening = m.opening; block = m.block; gate = m.gate; deposited = m.deposited ++ r ∷ []; out = without (r ∷ []) m.out })
+    (record { opening = m.opening; block = m.block; gate = record { next = m.gate.next + 0; target = m.gate.target + 0; sealed = m.gate.sealed || false; cancelled = m.gate.cancelled || false }; deposited = m.deposited ++ r ∷ []; out = without (r ∷ []) (m.out ++ []) })
+    (record { opening = m.opening; block = m.block; gate = m.gate; deposited = m.deposited ++ r ∷ []; out = without (r ∷ []) m.out })
 after_deposited m r =
     machine_is m.opening m.block _ _ _ _ _ _ (gate_is _ _ _ _ _ _ _ _ (omega arith) (omega arith) (or_nothing m.gate.sealed) (or_nothing m.gate.cancelled)) refl (ap (without (r ∷ [])) (append-nil m.out))
 
@@ -240,9 +240,9 @@ fresh_claim m count sound full =
     let r = range m.gate.next count in
     let d = disjoint_left m.deposited m.out (sound_disjoint m sound) in
     let none_there : has_range m.deposited r ≡ false = false_from_ne_true (has_range m.deposited r) (λ there.
-        let t = has_times m.deposited r m.gate.next there (first_inside r full) in
-        let all = times_same (m.deposited ++ m.out) (range 0 m.gate.next ∷ []) sound.same m.gate.next in
-        absurd (omega (arith, times-append m.gate.next m.deposited m.out, times-cons m.gate.next (range 0 m.gate.next) [], times-nil m.gate.next, above m.gate.next))) in
+    let t = has_times m.deposited r m.gate.next there (first_inside r full) in
+    let all = times_same (m.deposited ++ m.out) (range 0 m.gate.next ∷ []) sound.same m.gate.next in
+    absurd (omega (arith, times-append m.gate.next m.deposited m.out, times-cons m.gate.next (range 0 m.gate.next) [], times-nil m.gate.next, above m.gate.next))) in
     without-keeps m.deposited r [] none_there ∙ ap (λ l. r ∷ l) (without-nil m.deposited)
   where
     above : (n : ℕ) → cond (has_sample n (range 0 n)) 1 0 ≡ zero
@@ -272,9 +272,9 @@ machine_push opening block h e sound is =
     let rs = ranges_of h in
     let new : without ds (range_in e.reply) ≡ range_in e.reply = subst (λ reply. without ds (range_in reply) ≡ range_in reply) (sym is) (fresh m e.call sound) in
     let out : out_of (h ++ e ∷ []) ≡ without (deposit_in e.call) (out_of h ++ range_in e.reply) =
-        rw (deposits_push h e, ranges_push h e)
-        (without-both ds (deposit_in e.call) (rs ++ range_in e.reply)
-        ∙ ap (without (deposit_in e.call)) (without-append ds rs (range_in e.reply) ∙ ap (λ l. without ds rs ++ l) new)) in
+    rw (deposits_push h e, ranges_push h e)
+    (without-both ds (deposit_in e.call) (rs ++ range_in e.reply)
+    ∙ ap (without (deposit_in e.call)) (without-append ds rs (range_in e.reply) ∙ ap (λ l. without ds rs ++ l) new)) in
     machine_is opening block _ _ _ _ _ _ (gate_push opening h e) (deposits_push h e) out
 
 pub allowed_from_may : (h : List Entry) (first count : ℕ) → may_come h (Deposit first count) ≡ true → has_range (out_of h) (range first count) ≡ true
@@ -298,20 +298,26 @@ out_from_may h AskProgress may = tt
 out_from_may h (Deposit first count) may = allowed_from_may h first count may
 out_from_may h AskInterim may = tt
 
+pub sound_empty : (opening block : ℕ) → (1 ≤ opening) × (opening ≤ MOST_SAMPLES) → (1 ≤ block) × (block ≤ MOST_BLOCK)
+    → IsSound (record { opening = opening; block = block; gate = record { next = 0; target = opening; sealed = false; cancelled = false }; deposited = []; out = [] })
+sound_empty opening block o b = record {
+  opening = o;
+  block = b;
+  next = omega arith;
+  target = o.1;
+  filled = tt;
+  same = λ w. omega (arith, total-nil w, total-one w (range 0 0), weight-none w 0);
+}
+
+out_nil : out_of [] ≡ []
+out_nil = rw (ranges-nil) (without-nil (deposits_of []))
+
+pub machine_start : (opening block : ℕ) → machine_at opening block [] ≡ record { opening = opening; block = block; gate = record { next = 0; target = opening; sealed = false; cancelled = false }; deposited = []; out = [] }
+machine_start opening block = machine_is opening block _ _ _ _ _ _ (gate-nil opening) deposits-nil out_nil
+
 sound_start : (opening block : ℕ) → (1 ≤ opening) × (opening ≤ MOST_SAMPLES) → (1 ≤ block) × (block ≤ MOST_BLOCK) → IsSound (machine_at opening block [])
 sound_start opening block o b =
-    subst IsSound (sym (machine_is opening block _ _ _ _ _ _ (gate-nil opening) deposits-nil out_nil))
-    (record {
-      opening = o;
-      block = b;
-      next = omega arith;
-      target = o.1;
-      filled = tt;
-      same = λ w. omega (arith, total-nil w, total-one w (range 0 0), weight-none w 0);
-    })
-  where
-    out_nil : out_of [] ≡ []
-    out_nil = rw (ranges-nil) (without-nil (deposits_of []))
+    subst IsSound (sym (machine_start opening block)) (sound_empty opening block o b)
 
 -- what a legal history comes to is within the limits, and what it gave out stands in its deposits and what is out
 pub sound_history : (opening block : ℕ) → (1 ≤ opening) × (opening ≤ MOST_SAMPLES) → (1 ≤ block) × (block ≤ MOST_BLOCK)
@@ -319,9 +325,9 @@ pub sound_history : (opening block : ℕ) → (1 ≤ opening) × (opening ≤ MO
 sound_history opening block o b =
     legal_by_pushes opening block (λ h. IsSound (machine_at opening block h)) (sound_start opening block o b)
     (λ h e legal follows sound.
-        subst IsSound (sym (machine_push opening block h e sound follows.0))
-        (subst (λ reply. IsSound (after (machine_at opening block h) e.call reply)) (sym follows.0)
-        (sound_after (machine_at opening block h) e.call sound (out_from_may h e.call follows.1))))
+    subst IsSound (sym (machine_push opening block h e sound follows.0))
+    (subst (λ reply. IsSound (after (machine_at opening block h) e.call reply)) (sym follows.0)
+    (sound_after (machine_at opening block h) e.call sound (out_from_may h e.call follows.1))))
 
 -- ---- a machine stands for the history of its calls
 
@@ -365,17 +371,6 @@ after_cancel m =
     machine_is m.opening m.block _ _ _ _ _ _ (gate_is _ _ _ _ _ _ _ _ (omega arith) (omega arith) (or_nothing m.gate.sealed) (or_all m.gate.cancelled)) (append-nil m.deposited) (same_list m.out)
 
 -- ---- what a sound machine's lists are
-
-pub sound_empty : (opening block : ℕ) → (1 ≤ opening) × (opening ≤ MOST_SAMPLES) → (1 ≤ block) × (block ≤ MOST_BLOCK)
-    → IsSound (record { opening = opening; block = block; gate = record { next = 0; target = opening; sealed = false; cancelled = false }; deposited = []; out = [] })
-sound_empty opening block o b = record {
-  opening = o;
-  block = b;
-  next = omega arith;
-  target = o.1;
-  filled = tt;
-  same = λ w. omega (arith, total-nil w, total-one w (range 0 0), weight-none w 0);
-}
 
 abbrev ones : ℕ → ℕ
 ones n = 1

@@ -1,10 +1,10 @@
 -- A machine that replies to a list of calls.
-use Rattle.std.proofs.Common.{◌≡◌, ℕ, zero, suc, ◌+◌, ◌-◌, ◌<◌, ◌≤◌, List, [], ◌∷◌, ◌++◌, length, get_or, map, take, drop, refl, ap, sym, ◌∙◌, subst, arith}
+use Rattle.std.proofs.Common.{◌≡◌, ℕ, ◌+◌, ◌<◌, ◌≤◌, List, [], ◌∷◌, ◌++◌, length, get_or, take, drop, refl, ap, sym, ◌∙◌, subst, arith}
 use Rattle.std.proofs.lemmas.List.{take_more, drop_more, take_all, take-append-drop, length-take, map_push, same_from_push, length_push}
 use Rattle.campaign_core.specs.declared.call.Call.{Call}
 use Rattle.campaign_core.specs.declared.call.Reply.{Reply}
 use Rattle.campaign_core.specs.declared.call.Entry.{Entry}
-use Rattle.campaign_core.specs.History.{entry, IsLegal, out_of}
+use Rattle.campaign_core.specs.History.{entry, IsLegal}
 use Rattle.campaign_core.specs.Machine.{Machine, StandsFor, IsAllowed, MayBeCalled, calls_in, replies_in}
 use Rattle.campaign_core.proofs.HistoryLaws.{last_of}
 
@@ -42,7 +42,7 @@ replied_allowed opening block m calls replies n d r more may =
     let cs = made_calls (take n calls) replies long in
     let s = r.stands h cs (made_replies (take n calls) replies long) in
     let cut : calls ≡ calls_in h ++ get_or calls n d ∷ drop (n + 1) calls =
-        sym (take-append-drop n calls) ∙ (ap (λ l. take n calls ++ l) (drop_more calls n d more) ∙ ap (λ l. l ++ get_or calls n d ∷ drop (n + 1) calls) (sym cs)) in
+    sym (take-append-drop n calls) ∙ (ap (λ l. take n calls ++ l) (drop_more calls n d more) ∙ ap (λ l. l ++ get_or calls n d ∷ drop (n + 1) calls) (sym cs)) in
     let legal : IsLegal opening block h = subst (λ o. IsLegal o block h) r.target (subst (λ b. IsLegal m.opening b h) r.step s.legal) in
     subst (λ o. IsAllowed o (get_or calls n d)) (sym s.out) (may h (get_or calls n d) (drop (n + 1) calls) cut legal)
 

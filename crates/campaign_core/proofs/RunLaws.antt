@@ -1,13 +1,12 @@
 -- What the runs of ranges are: the one list of spaced runs with the ranges' samples.
-use Rattle.std.proofs.Common.{◌≡◌, ◌≢◌, ℕ, zero, suc, ◌+◌, ◌-◌, ◌<◌, ◌≤◌, ◌==◌, inl, inr, Bool, true, false, cond, ◌&&◌, ◌||◌, not, List, [], ◌∷◌, ◌++◌, map, length, get_or, take, drop, nat_le, nat_lt, max, fold, refl, ap, sym, ◌∙◌, subst, arith, add-one}
-use Rattle.std.specs.List.{range_with_len, filter, list_any}
+use Rattle.std.proofs.Common.{◌≡◌, ℕ, zero, suc, ◌+◌, ◌<◌, ◌≤◌, ◌==◌, inl, inr, Bool, true, false, cond, ◌&&◌, ◌||◌, List, [], ◌∷◌, map, nat_le, nat_lt, max, fold, refl, ap, sym, ◌∙◌, subst, arith, add-one}
+use Rattle.std.specs.List.{range_with_len, filter}
 use Rattle.std.proofs.lemmas.Bool.{cases_lt, cases_eq, cases_Bool, eq-eqb, ne_eqb, false≢true, and_right, or_right, or_left, or_cases}
 use Rattle.std.proofs.lemmas.Bool.Decides.{nat_tests}
-use Rattle.std.proofs.lemmas.List.Sums.{fold-append}
 use Rattle.campaign_core.specs.declared.run.SampleRange.{SampleRange}
 use Rattle.campaign_core.specs.declared.run.Run.{Run}
-use Rattle.campaign_core.specs.Ranges.{range, run, samples_of, has_sample, times, weight_of, total, AreSame, AreDisjoint, is_in, end_of, is_before, begins_run, ends_run, paired, runs_of}
-use Rattle.campaign_core.specs.Joining.{Ascends, Spaced, IsJoined}
+use Rattle.campaign_core.specs.Ranges.{run, samples_of, has_sample, times, AreSame, is_in, end_of, is_before, begins_run, ends_run, paired, runs_of}
+use Rattle.campaign_core.specs.Joining.{Spaced}
 use Rattle.campaign_core.proofs.Totals.{times-nil, times-cons, times_same, same_from_times}
 
 pub in-nil : (n : ℕ) → is_in [] n ≡ false
@@ -210,8 +209,7 @@ module _ (test : ℕ → Bool) where
                   let next' : AllBelow (j.last + 1 + n) (j ∷ js) = subst (λ m. AllBelow (m + 1 + n) (j ∷ js)) e2 next in
                   let rest = behind j js s.1 s.2 tells' next'.1 in
                   let firsts_rest : firsts (a + 1) n ≡ map (λ (j : Run). j.first) js = subst (λ m. firsts (m + 1) n ≡ map (λ (j : Run). j.first) js) (sym e2) rest.0 in
-                  let lasts_rest : lasts (a + 1) n ≡ map (λ (j : Run). j.last) js = subst (λ m. lasts (m + 1) n ≡ map (λ (j : Run). j.last) js) (sym e2) rest.1 in
-                  (
+                  let lasts_rest : lasts (a + 1) n ≡ map (λ (j : Run). j.last) js = subst (λ m. lasts (m + 1) n ≡ map (λ (j : Run). j.last) js) (sym e2) rest.1 in (
                     first_yes ∙ (ap (λ l. a ∷ l) firsts_rest ∙ ap (λ m. m ∷ map (λ (j : Run). j.first) js) e),
                     lasts-yes a n yes no ∙ (ap (λ l. a ∷ l) lasts_rest ∙ ap (λ m. m ∷ map (λ (j : Run). j.last) js) e2),
                   )
@@ -251,9 +249,10 @@ in_end n rs h = in_below n rs 0 h
 
 all_below : (end low : ℕ) (js : List Run) → Spaced low js → ((n : ℕ) → is_in (map samples_of js) n ≡ true → n < end) → AllBelow end js
 all_below end low [] s h = tt
-all_below end low (j ∷ js) s h =
-    (h j.last (in-cons j.last (samples_of j) (map samples_of js) ∙ or_left (has_sample j.last (samples_of j)) (is_in (map samples_of js) j.last) (has_inside j.last j s.1 (omega arith))),
-     all_below end (j.last + 2) js s.2 (λ n i. h n (in-cons n (samples_of j) (map samples_of js) ∙ or_right (has_sample n (samples_of j)) (is_in (map samples_of js) n) i)))
+all_below end low (j ∷ js) s h = (
+  h j.last (in-cons j.last (samples_of j) (map samples_of js) ∙ or_left (has_sample j.last (samples_of j)) (is_in (map samples_of js) j.last) (has_inside j.last j s.1 (omega arith))),
+  all_below end (j.last + 2) js s.2 (λ n i. h n (in-cons n (samples_of j) (map samples_of js) ∙ or_right (has_sample n (samples_of j)) (is_in (map samples_of js) n) i)),
+)
 
 -- spaced runs with the samples of these ranges are their runs
 pub runs_are : (rs : List SampleRange) (js : List Run) → Spaced 0 js → ((n : ℕ) → is_in rs n ≡ is_in (map samples_of js) n) → runs_of rs ≡ js

@@ -1,15 +1,10 @@
 -- The steps that join ascending runs, and what joined runs are.
-use Rattle.std.proofs.Common.{◌≡◌, ◌≢◌, ℕ, zero, suc, ◌+◌, ◌-◌, ◌<◌, ◌≤◌, ◌==◌, inl, inr, Bool, true, false, cond, ◌&&◌, ◌||◌, not, List, [], ◌∷◌, ◌++◌, map, length, get_or, take, drop, nat_le, nat_lt, All, refl, ap, sym, ◌∙◌, arith, add-one}
-use Rattle.std.specs.List.{range_with_len, filter, list_any}
-use Rattle.std.specs.List.Sorted.{IsNonDecreasingBy}
-use Rattle.std.proofs.lemmas.Bool.{cases_lt, cases_eq, eq-eqb, ne_eqb}
-use Rattle.std.proofs.lemmas.Bool.Decides.{nat_tests}
-use Rattle.std.proofs.lemmas.List.{take_more, drop_more, map_push, map-append, append-nil}
-use Rattle.campaign_core.specs.declared.run.SampleRange.{SampleRange}
+use Rattle.std.proofs.Common.{◌≡◌, ℕ, ◌+◌, ◌-◌, ◌<◌, ◌≤◌, List, [], ◌∷◌, ◌++◌, map, arith}
+use Rattle.std.proofs.lemmas.List.{map_push}
 use Rattle.campaign_core.specs.declared.run.Run.{Run}
-use Rattle.campaign_core.specs.Ranges.{range, run, samples_of, has_sample, times, weight_of, total, AreSame, AreDisjoint, is_in, end_of, is_before, begins_run, ends_run, paired, runs_of}
-use Rattle.campaign_core.specs.Joining.{Ascends, Spaced, IsJoined}
-use Rattle.campaign_core.proofs.Totals.{weight-cut, total-nil, total-cons, total-append, total_push, total-one, times-nil, times-cons}
+use Rattle.campaign_core.specs.Ranges.{run, samples_of, weight_of, AreSame}
+use Rattle.campaign_core.specs.Joining.{Spaced}
+use Rattle.campaign_core.proofs.Totals.{weight-cut, total_push}
 
 -- a run behind spaced runs, with a number left out
 pub spaced_push : (low : ℕ) (front : List Run) (j r : Run) → Spaced low (front ++ j ∷ []) → j.last + 2 ≤ r.first → r.first ≤ r.last → Spaced low ((front ++ j ∷ []) ++ r ∷ [])

@@ -1,14 +1,13 @@
 -- What ranges of samples weigh, and that weights tell them apart.
-use Rattle.std.proofs.Common.{◌≡◌, ◌≢◌, ℕ, zero, suc, ◌+◌, ◌-◌, ◌*◌, ◌<◌, ◌≤◌, ◌==◌, inl, inr, Bool, true, false, cond, ◌&&◌, not, List, [], ◌∷◌, ◌++◌, map, length, get_or, sum_by, count_by, fold, nat_le, nat_lt, max, refl, ap, sym, ◌∙◌, arith, add-one, add-suc, add-zero}
+use Rattle.std.proofs.Common.{◌≡◌, ℕ, zero, suc, ◌+◌, ◌*◌, ◌<◌, ◌≤◌, ◌==◌, inl, inr, Bool, true, false, cond, List, [], ◌∷◌, ◌++◌, nat_lt, refl, ap, sym, ◌∙◌, arith}
 use Rattle.std.proofs.Math.Nat.{zero-mul}
-use Rattle.std.specs.List.{range_with_len, filter, list_any}
-use Rattle.std.proofs.lemmas.Bool.{cases_lt, cases_eq, eq-eqb, ne_eqb}
+use Rattle.std.specs.List.{range_with_len}
+use Rattle.std.proofs.lemmas.Bool.{cases_lt, cases_eq, eq-eqb, ne_eqb, lt-ltb}
 use Rattle.std.proofs.lemmas.Bool.Decides.{nat_tests}
 use Rattle.std.proofs.lemmas.List.Sums.{sum_by-cons, sum_by-append}
 use Rattle.ra_base.specs.declared.limits.TheConstants.{MOST_SAMPLES}
 use Rattle.campaign_core.specs.declared.run.SampleRange.{SampleRange}
-use Rattle.campaign_core.specs.declared.run.Run.{Run}
-use Rattle.campaign_core.specs.Ranges.{range, samples_of, has_sample, times, weight_of, total, AreSame, AreDisjoint, AreFilled, is_in, end_of}
+use Rattle.campaign_core.specs.Ranges.{range, has_sample, times, weight_of, total, AreSame, AreDisjoint}
 
 -- ---- one range
 
@@ -229,5 +228,70 @@ disjoint_one n h s =
     cond_small : (b : Bool) → cond b 1 0 ≤ 1
     cond_small true = omega arith
     cond_small false = omega arith
+
     behind : (s n : ℕ) → n ≤ s → has_sample s (range 0 n) ≡ false
     behind s n h = grind (arith, nat_tests)
+
+-- ---- how many samples disjoint ranges have
+
+below-le : (f g : ℕ → ℕ) (n : ℕ) → ((i : ℕ) → i < n → f i ≤ g i) → sum_below f n ≤ sum_below g n
+below-le f g zero h = omega (arith, below-zero f, below-zero g)
+below-le f g (suc n) h = omega (arith, below-suc f n, below-suc g n, below-le f g n (λ i l. h i (omega arith)), h n (omega arith))
+
+-- 1 at each number below m
+abbrev under : ℕ → ℕ → ℕ
+under m = λ i. cond (nat_lt i m) 1 0
+
+below-under : (m n : ℕ) → sum_below (under m) n ≤ m
+below-under m zero = omega (arith, below-zero (under m))
+below-under m (suc n) =
+    elim (cases_lt n m) [
+      | inl l ↦ omega (arith, all_under (suc n) (omega arith))
+      | inr g ↦
+          let off : under m n ≡ zero = ap (λ b. cond b 1 0) (off_at n g) in
+          omega (arith, below-suc (under m) n, below-under m n, off)
+    ]
+  where
+    off_at : (n : ℕ) → m ≤ n → nat_lt n m ≡ false
+    off_at n g = grind (arith, nat_tests)
+
+    on_at : (n : ℕ) → n < m → nat_lt n m ≡ true
+    on_at n l = grind (arith, nat_tests)
+
+    all_under : (k : ℕ) → k ≤ m → sum_below (under m) k ≡ k
+    all_under zero h = below-zero (under m)
+    all_under (suc k) h =
+        let on : under m k ≡ suc zero = ap (λ b. cond b 1 0) (on_at k (omega arith)) in
+        omega (arith, below-suc (under m) k, all_under k (omega arith), on)
+
+-- disjoint ranges have at most as many samples as a study may have
+pub few_disjoint : (rs : List SampleRange) → AreDisjoint rs → total (λ sample. 1) rs ≤ MOST_SAMPLES
+few_disjoint rs d =
+    let end = some_end rs in
+    let t = total-below (λ sample. 1) end.0 rs end.1 in
+    let le = below-le (λ i. times i rs * 1) (under MOST_SAMPLES) end.0 (λ i l. at i) in
+    omega (arith, t, le, below-under MOST_SAMPLES end.0)
+  where
+    at : (i : ℕ) → times i rs * 1 ≤ under MOST_SAMPLES i
+    at i =
+        elim (cases_lt i MOST_SAMPLES) [
+          | inl l ↦ let on : under MOST_SAMPLES i ≡ suc zero = ap (λ b. cond b 1 0) (lt-ltb i MOST_SAMPLES l) in omega (arith, (d i).0, on)
+          | inr g ↦ omega (arith, (d i).1 g)
+        ]
+
+-- a sample is in ranges where they have some
+pub total_some : (rs : List SampleRange) (n : ℕ) → 1 ≤ times n rs → 0 < total (λ sample. 1) rs
+total_some rs n h =
+    let end = some_end rs in
+    let m = end.0 + n + 1 in
+    let t = total-below (λ sample. 1) m rs (ends_later end.0 m rs (omega arith) end.1) in
+    let one = below-only (λ i. 1) n m (omega arith) in
+    let le = below-le (λ i. cond (i == n) 1 0) (λ i. times i rs * 1) m (λ i l. at i) in
+    omega (arith, t, le, one)
+  where
+    at : (i : ℕ) → cond (i == n) 1 0 ≤ times i rs * 1
+    at i =
+        elim (cases_eq i n) [
+          | inl e ↦ rw (eq-eqb i n e, e) (omega arith)
+          | inr ne ↦ rw (ne_eqb i n ne) (omega arith)
+        ]

@@ -1,14 +1,13 @@
 -- Ranges in lists, and lists without some of their ranges.
-use Rattle.std.proofs.Common.{◌≡◌, ℕ, zero, suc, ◌+◌, ◌-◌, ◌<◌, ◌≤◌, ◌==◌, inl, inr, Bool, true, false, cond, ◌&&◌, ◌||◌, not, List, [], ◌∷◌, ◌++◌, length, get_or, take, drop, slice_get, Some, nat_le, nat_lt, refl, ap, sym, ◌∙◌, subst, arith}
-use Rattle.std.specs.List.{filter, list_any}
+use Rattle.std.proofs.Common.{◌≡◌, ℕ, zero, suc, ◌+◌, ◌<◌, ◌≤◌, ◌==◌, inl, inr, Bool, true, false, cond, ◌&&◌, ◌||◌, not, List, [], ◌∷◌, ◌++◌, length, get_or, take, drop, slice_get, Some, refl, ap, sym, ◌∙◌, subst, arith}
 use Rattle.std.proofs.lemmas.Bool.{cases_Bool, eq-eqb, eqb-true, and_parts, or_cases, false≢true, or_parts, or_right, false_from_ne_true}
 use Rattle.std.proofs.lemmas.List.{take_more}
 use Rattle.std.proofs.lemmas.Bool.Decides.{nat_tests}
 use Rattle.std.proofs.lemmas.List.Folds.{list_any-append}
 use Rattle.std.proofs.lemmas.List.Elements.{filter-append}
 use Rattle.campaign_core.specs.declared.run.SampleRange.{SampleRange}
-use Rattle.campaign_core.specs.Ranges.{range, is_same, has_range, without, has_sample, times, weight_of, total, AreSame, AreDisjoint, AreFilled}
-use Rattle.campaign_core.proofs.Totals.{total-nil, total-cons, total-append, times-nil, times-cons, times-append}
+use Rattle.campaign_core.specs.Ranges.{range, is_same, has_range, without, has_sample, times, weight_of, total, AreFilled}
+use Rattle.campaign_core.proofs.Totals.{total-cons, times-cons}
 
 -- ---- one range
 
@@ -142,6 +141,7 @@ has-without ds (s ∷ rs) r =
         and_false : (b : Bool) → (b && false) ≡ false
         and_false true = refl
         and_false false = refl
+
     kept : has_range ds s ≡ false → (is_same s r || (has_range rs r && not (has_range ds r))) ≡ (has_range (s ∷ rs) r && not (has_range ds r))
     kept away =
         elim (cases_Bool (is_same s r)) [

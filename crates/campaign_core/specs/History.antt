@@ -98,15 +98,19 @@ reply_of block g deposits AskInterim = Interim g (runs_of deposits)
 -- whether a call may come behind these entries: a deposit's range was given out and wasn't deposited
 abbrev pub may_come : List Entry → Call → Bool
 may_come before (Deposit first count) =
-    has_range (ranges_of before) (range first count) && not (has_range (deposits_of before) (range first count))
+    has_range (ranges_of before) (range first count)
+    && not (has_range (deposits_of before) (range first count))
 may_come before other = true
 
 -- an entry may follow the entries before it
 abbrev pub Follows : ℕ → ℕ → List Entry → Entry → Type 0
 Follows opening block before e =
-    (e.reply ≡ reply_of block (gate_of opening before) (deposits_of before) e.call) × (may_come before e.call ≡ true)
+    (e.reply ≡ reply_of block (gate_of opening before) (deposits_of before) e.call)
+    × (may_come before e.call ≡ true)
 
 -- each entry follows those before it
 abbrev pub IsLegal : ℕ → ℕ → List Entry → Type 0
 IsLegal opening block h =
-    (before : List Entry) (e : Entry) (after : List Entry) → h ≡ before ++ e ∷ after → Follows opening block before e
+    (before : List Entry) (e : Entry) (after : List Entry)
+    → h ≡ before ++ e ∷ after
+    → Follows opening block before e

@@ -8,9 +8,10 @@ use Rattle.campaign_core.specs.declared.call.Call.TheVariants.{Extend, Deposit}
 use Rattle.campaign_core.specs.declared.call.Reply.{Reply}
 use Rattle.campaign_core.specs.declared.call.Entry.{Entry}
 use Rattle.campaign_core.specs.Ranges.{range, has_range, without, AreSame, AreFilled}
-use Rattle.campaign_core.specs.History.{entry, range_in, claimed_in, raised_in, deposit_in, is_seal, is_cancel, gate_of, deposits_of, out_of, may_come, IsLegal}
+use Rattle.campaign_core.specs.History.{range_in, claimed_in, raised_in, deposit_in, is_seal, is_cancel, gate_of, deposits_of, out_of, IsLegal}
 
--- the opening target, the block, the gate, the deposited ranges in order, and the ranges that are out, ascending
+-- the opening target, the block, the gate, the deposited ranges in order, and the ranges that are out,
+-- ascending
 pub record Machine : Type 0 where
   pub opening : ℕ
   pub block : ℕ
@@ -25,7 +26,8 @@ pub record StandsFor (m : Machine) (h : List Entry) : Type 0 where
   pub deposited : m.deposited ≡ deposits_of h
   pub out : m.out ≡ out_of h
 
--- a call may be made: a deposit's range is out, and an extension is by a number of samples that a study may have
+-- a call may be made: a deposit's range is out, and an extension is by a number of samples that a study
+-- may have
 abbrev pub IsAllowed : List SampleRange → Call → Type 0
 IsAllowed out (Deposit first count) = IsTrue (has_range out (range first count))
 IsAllowed out (Extend more) = (1 ≤ more) × (more ≤ MOST_SAMPLES)
@@ -50,7 +52,8 @@ after m call reply = record {
   out = without (deposit_in call) (m.out ++ range_in reply);
 }
 
--- a machine is within the limits, and what was deposited and what is out are just the samples that were given out
+-- a machine is within the limits, and what was deposited and what is out are just the samples that were
+-- given out
 pub record IsSound (m : Machine) : Type 0 where
   pub opening : (1 ≤ m.opening) × (m.opening ≤ MOST_SAMPLES)
   pub block : (1 ≤ m.block) × (m.block ≤ MOST_BLOCK)

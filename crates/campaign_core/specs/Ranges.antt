@@ -1,5 +1,5 @@
 -- Ranges of samples: what their samples weigh, and the runs that they make.
-use Rattle.std.specs.Prelude.{◌≡◌, ℕ, zero, suc, ◌+◌, ◌-◌, ◌≤◌, Bool, false, ◌&&◌, not, ◌==◌, nat_le, nat_lt, List, [], ◌∷◌, map, fold, count_by, sum_by, max}
+use Rattle.std.specs.Prelude.{◌≡◌, ℕ, zero, suc, ◌+◌, ◌-◌, ◌≤◌, Bool, false, ◌&&◌, not, ◌==◌, nat_le, nat_lt, List, [], ◌∷◌, fold, count_by, sum_by, max}
 use Rattle.std.specs.List.{filter, list_any, range_with_len}
 use Rattle.ra_base.specs.declared.limits.TheConstants.{MOST_SAMPLES}
 use Rattle.campaign_core.specs.declared.run.SampleRange.{SampleRange}
@@ -49,7 +49,8 @@ AreSame xs ys = (weight : ℕ → ℕ) → total weight xs ≡ total weight ys
 
 -- no sample is in two of the ranges, and each is below the most samples of a study
 abbrev pub AreDisjoint : List SampleRange → Type 0
-AreDisjoint ranges = (sample : ℕ) → (times sample ranges ≤ 1) × (MOST_SAMPLES ≤ sample → times sample ranges ≡ 0)
+AreDisjoint ranges =
+    (sample : ℕ) → (times sample ranges ≤ 1) × (MOST_SAMPLES ≤ sample → times sample ranges ≡ 0)
 
 -- no range is empty
 abbrev pub AreFilled : List SampleRange → Type 0

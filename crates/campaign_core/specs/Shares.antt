@@ -1,5 +1,5 @@
 -- What a share may be.
-use Rattle.std.specs.Prelude.{ℕ, ◌+◌, ◌≤◌}
+use Rattle.std.specs.Prelude.{◌+◌, ◌≤◌}
 use Rattle.ra_base.specs.declared.limits.TheConstants.{MOST_SAMPLES}
 use Rattle.campaign_core.specs.declared.run.SampleRange.{SampleRange}
 

@@ -17,7 +17,10 @@ pub enum Call {
     /// Asks how far the campaign has come.
     Progress,
     /// Brings what the samples of a range that was given out came to.
-    Deposit { first: u32, count: u32 },
+    Deposit {
+        first: u32,
+        count: u32,
+    },
     /// Asks for what was deposited so far.
     Interim,
 }

@@ -37,7 +37,8 @@ impl Model for Core {
 }
 
 impl Core {
-    /// A campaign of `target` samples that gives out `block` of them at a time. It stands for the empty history.
+    /// A campaign of `target` samples that gives out `block` of them at a time. It stands for the empty
+    /// history.
     pub fn open(alloc: Global, target: u32, block: u32) -> Result<Core, OutOfMemory>
         requires target { (1 ≤ target) × (target ≤ MOST_SAMPLES) }
         requires block { (1 ≤ block) × (block ≤ MOST_BLOCK) }

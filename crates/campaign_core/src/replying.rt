@@ -8,8 +8,14 @@ use crate::{Call, Core, Reply};
 use ra_base::OutOfMemory;
 use std::alloc::Global;
 
-/// The replies to a list of calls on a new campaign. With them the calls are a legal history, whoever made them.
-pub fn replies(alloc: Global, target: u32, block: u32, calls: &[Call]) -> Result<Vec<Reply>, OutOfMemory>
+/// The replies to a list of calls on a new campaign. With them the calls are a legal history, whoever
+/// made them.
+pub fn replies(
+    alloc: Global,
+    target: u32,
+    block: u32,
+    calls: &[Call],
+) -> Result<Vec<Reply>, OutOfMemory>
     requires target { (1 ≤ target) × (target ≤ MOST_SAMPLES) }
     requires block { (1 ≤ block) × (block ≤ MOST_BLOCK) }
     requires calls { MayBeCalled target block calls.now }

@@ -21,8 +21,8 @@ impl Model for Runs {
 }
 
 impl Runs {
-    /// The runs that these ranges make, whatever their order. It takes no memory: the list is ordered in place,
-    /// and ranges that touch are joined.
+    /// The runs that these ranges make, whatever their order. It takes no memory: the list is ordered in
+    /// place, and ranges that touch are joined.
     pub fn of(mut list: Vec<Run>) -> Runs
         requires ordered { All (λ r. r.first ≤ r.last) list.items }
         requires disjoint { AreDisjoint (map samples_of list.items) }
@@ -81,5 +81,6 @@ fn touches(left: Run, right: Run) -> bool
     requires { left.last < right.first }
     ensures { result ≡ (left.last + 1 == right.first) }
 {
-    left.last + 1 == right.first
+    let next = left.last + 1;
+    next == right.first
 }

@@ -28,12 +28,15 @@ pub trait Work: Drop + Send + Sync {
         requires { (xs : List SampleRange) × (ys : List SampleRange)
             × stands self.now into.old xs × stands self.now more.now ys × AreDisjoint (xs ++ ys) }
         ensures both { OnOk result ((xs ys : List SampleRange) → AreDisjoint (xs ++ ys)
-            → stands self.now into.old xs → stands self.now more.now ys → stands self.now into.new (xs ++ ys)) }
-        ensures err { OnErr result ((xs : List SampleRange) → stands self.now into.old xs → stands self.now into.new xs) };
+            → stands self.now into.old xs → stands self.now more.now ys
+            → stands self.now into.new (xs ++ ys)) }
+        ensures err { OnErr result ((xs : List SampleRange)
+            → stands self.now into.old xs → stands self.now into.new xs) };
 
     /// A second sum that stands for what the first one stands for.
     fn copy(&self, alloc: Global, sum: &Self::Sum) -> Result<Self::Sum, OutOfMemory>
-        ensures { IfOk result (λ copy. (xs : List SampleRange) → stands self.now sum.now xs → stands self.now copy xs) };
+        ensures { IfOk result (λ copy. (xs : List SampleRange)
+            → stands self.now sum.now xs → stands self.now copy xs) };
 
     /// Whether the ranges that a sum stands for are enough.
     fn enough(&self, sum: &Self::Sum) -> bool
@@ -85,7 +88,8 @@ pub trait Job<W: Work>: Drop {
     /// Runs the samples of a share. Without memory the share comes back.
     fn run(&mut self, alloc: Global, share: Share) -> Result<Done<W>, (Share, OutOfMemory)>
         ensures share { IfOk result (λ done. done.share ≡ share) }
-        ensures sum { IfOk result (λ done. (work : W) → serves self.old work → W.stands work done.sum (share ∷ [])) }
+        ensures sum { IfOk result (λ done. (work : W)
+            → serves self.old work → W.stands work done.sum (share ∷ [])) }
         ensures err { IfErr result (λ e. e.0 ≡ share) }
         ensures same { (work : W) → (serves self.old work ↔ serves self.new work) };
 }

@@ -1,4 +1,4 @@
-use Rattle.std.proofs.Common.{◌≡◌, ◌≤◌, ◌+◌, ◌∷◌, ◌++◌, [], List, length, ℕ, sym, ap, ◌∙◌, refl, subst, arith, rules}
+use Rattle.std.proofs.Common.{arith}
 use Rattle.campaign_core.specs.Ranges.{range}
 use Rattle.campaign_core.proofs.MachineLaws.{runnable_at, runs_push, ordered_push}
 use Rattle.campaign_core.proofs.machine.as_runs.Goals as goal

@@ -1,7 +1,5 @@
-use Rattle.std.proofs.Common.{◌≡◌, ◌<◌, length, take, get_or, sym, ap, ◌∙◌, arith, false}
-use Rattle.std.proofs.lemmas.Bool.{false≢true}
-use Rattle.std.proofs.lemmas.List.{take_all}
-use Rattle.campaign_core.specs.Ranges.{range, has_range}
+use Rattle.std.proofs.Common.{sym, ◌∙◌}
+use Rattle.campaign_core.specs.Ranges.{range}
 use Rattle.campaign_core.proofs.WithoutLaws.{has-nil, has-take-more, get_is}
 use Rattle.campaign_core.proofs.machine.place_of.Goals as goal
 

@@ -1,7 +1,7 @@
-use Rattle.std.proofs.Common.{sym, map, subst, ◌∙◌, take, drop, length, List, arith}
+use Rattle.std.proofs.Common.{sym, map, subst, ◌∙◌, take, arith}
 use Rattle.std.proofs.lemmas.List.{take_all}
 use Rattle.campaign_core.specs.Ranges.{run, samples_of, AreSame}
-use Rattle.campaign_core.proofs.JoinSteps.{Joins, joins_none, next_behind, step_first, step_push, step_longer}
+use Rattle.campaign_core.proofs.JoinSteps.{joins_none, next_behind, step_first, step_push, step_longer}
 use Rattle.campaign_core.proofs.runs.join_touching.Goals as goal
 use Rattle.campaign_core.proofs.runs.join_touching.Goals.{then-joined-gt0+then-touches, else-joined-gt0, else-joined-gt0-via-then-joined-gt0+else-touches, else-joined-gt0-via-else-joined-gt0}
 

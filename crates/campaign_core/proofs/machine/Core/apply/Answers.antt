@@ -1,5 +1,5 @@
 use Rattle.std.proofs.Common.{subst}
-use Rattle.campaign_core.specs.Machine.{Machine, IsSound}
+use Rattle.campaign_core.specs.Machine.{IsSound}
 use Rattle.campaign_core.proofs.MachineLaws.{stands_result}
 use Rattle.campaign_core.proofs.machine.Core.apply.Goals as goal
 

@@ -1,6 +1,5 @@
-use Rattle.std.proofs.Common.{true, not, ◌≡◌, ◌≤◌, ◌+◌, ◌∷◌, ◌++◌, [], List, length, slice_get, Some, take, drop, suc, ℕ, sym, ap, ◌∙◌, refl, subst, arith, rules}
+use Rattle.std.proofs.Common.{true, ◌≡◌, ◌∷◌, ◌++◌, [], length, slice_get, Some, sym, ap, ◌∙◌, subst, arith}
 use Rattle.campaign_core.specs.Cores.{machine_of}
-use Rattle.campaign_core.specs.declared.run.SampleRange.{SampleRange}
 use Rattle.campaign_core.specs.Ranges.{range, has_range, without}
 use Rattle.campaign_core.specs.Machine.{Machine, IsSound}
 use Rattle.campaign_core.proofs.MachineLaws.{after_deposited, sound_deposited, sound_few, sound_place, below_from_get}

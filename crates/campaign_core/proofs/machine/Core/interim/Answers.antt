@@ -1,6 +1,5 @@
-use Rattle.std.proofs.Common.{◌≡◌, List, map, sym, ap, ◌∙◌, refl, subst, rules}
-use Rattle.campaign_core.specs.declared.run.SampleRange.{SampleRange}
-use Rattle.campaign_core.specs.Ranges.{AreDisjoint, samples_of, runs_of}
+use Rattle.std.proofs.Common.{sym, ◌∙◌, subst}
+use Rattle.campaign_core.specs.Ranges.{AreDisjoint}
 use Rattle.campaign_core.specs.Cores.{machine_of}
 use Rattle.campaign_core.specs.Joining.{AreRunnable}
 use Rattle.campaign_core.proofs.MachineLaws.{sound_runnable, sound_deposits, after_nothing}

@@ -1,5 +1,4 @@
-use Rattle.std.proofs.Common.{◌≡◌, ◌≤◌, ◌+◌, ◌∷◌, ◌++◌, [], List, length, ℕ, sym, ap, ◌∙◌, refl, subst, arith, rules}
-use Rattle.campaign_core.specs.Cores.{machine_of}
+use Rattle.std.proofs.Common.{refl}
 use Rattle.campaign_core.proofs.MachineLaws.{sound_empty, stands_start}
 use Rattle.campaign_core.proofs.machine.Core.open.Goals as goal
 

@@ -1,5 +1,4 @@
-use Rattle.std.proofs.Common.{◌≡◌, ◌≤◌, ◌+◌, ℕ, sym, ap, ◌∙◌, refl, subst, arith}
-use Rattle.campaign_core.specs.Cores.{machine_of}
+use Rattle.std.proofs.Common.{sym}
 use Rattle.campaign_core.proofs.MachineLaws.{after_nothing}
 use Rattle.campaign_core.proofs.machine.Core.progress.Goals as goal
 

@@ -1,8 +1,8 @@
-use Rattle.std.proofs.Common.{◌≡◌, ◌≤◌, ℕ, length, map, take, drop, List, All, arith, rules, sym, ap, ◌∙◌, subst}
+use Rattle.std.proofs.Common.{◌≤◌, ℕ, length, map, take, drop, arith, rules, sym, ◌∙◌, subst}
 use Rattle.std.proofs.lemmas.List.Sorted.{IsNonDecreasingBy-from_sort_by_key, All-permutation}
 use Rattle.campaign_core.specs.declared.run.Run.{Run}
 use Rattle.campaign_core.specs.Ranges.{samples_of, AreSame, times}
-use Rattle.campaign_core.specs.Joining.{Ascends, Spaced}
+use Rattle.campaign_core.specs.Joining.{Ascends}
 use Rattle.campaign_core.proofs.Totals.{same_trans, times_same}
 use Rattle.campaign_core.proofs.RunLaws.{runs_joined}
 use Rattle.campaign_core.proofs.SortSteps.{kept_front, same_permuted_runs, sorted_ascends}
