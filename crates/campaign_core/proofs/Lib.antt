@@ -1,0 +1,10 @@
+pub mod Totals
+pub mod RunSteps
+pub mod JoinSteps
+pub mod RunLaws
+pub mod SortSteps
+pub mod WithoutLaws
+pub mod HistoryLaws
+pub mod MachineLaws
+pub mod ReplyLaws
+pub mod PlayLaws
