@@ -1,7 +1,8 @@
 -- Texts that grow by one line, zone or byte.
 use Rattle.std.proofs.Common.{◌≡◌, ℕ, zero, suc, ◌+◌, ◌<◌, ◌==◌, Bool, true, false, List, [], ◌∷◌, ◌++◌, length, take, map, refl, sym, ap, ◌∙◌, append_assoc, arith, slice_index_or}
 use Rattle.std.specs.Prelude.{if◌then◌else◌}
-use Rattle.adequacy.specs.TotalsText.{name_text, is_inside, zones_in, zones_text}
+use Rattle.zone_network.specs.Sums.{inside}
+use Rattle.adequacy.specs.TotalsText.{name_text, zones_in, zones_text}
 use Rattle.std.specs.Prelude.{filter}
 use Rattle.std.specs.List.{range_with_len, flat_map, join_by}
 use Rattle.std.proofs.lemmas.Grind.{flat_map-append}
@@ -55,13 +56,13 @@ unfolding zones_text
 zones_text-more names zones zone = join_by-more (λ zone. name_text (slice_index_or names zone [])) (43 ∷ []) zones zone
 
 -- a mask holds one more zone, or doesn't
-pub zones_in-yes : (mask n : ℕ) → is_inside mask n ≡ true → zones_in mask (n + 1) ≡ zones_in mask n ++ n ∷ []
+pub zones_in-yes : (mask n : ℕ) → inside mask n ≡ true → zones_in mask (n + 1) ≡ zones_in mask n ++ n ∷ []
 unfolding zones_in
-zones_in-yes mask n is = filter-range-yes (is_inside mask) n is
+zones_in-yes mask n is = filter-range-yes (inside mask) n is
 
-pub zones_in-no : (mask n : ℕ) → is_inside mask n ≡ false → zones_in mask (n + 1) ≡ zones_in mask n
+pub zones_in-no : (mask n : ℕ) → inside mask n ≡ false → zones_in mask (n + 1) ≡ zones_in mask n
 unfolding zones_in
-zones_in-no mask n out = filter-range-no (is_inside mask) n out
+zones_in-no mask n out = filter-range-no (inside mask) n out
 
 -- no zone of a mask
 pub zones_in-none : (names : List (List ℕ)) (mask : ℕ) → (zones_in mask 0 ≡ []) × (zones_text names (zones_in mask 0) ≡ [])
@@ -81,7 +82,7 @@ IsJoined-none names mask before =
       none = ap (λ (zones : List ℕ). is_none zones) (sym none.0);
     }
 
-pub IsJoined-yes : (names : List (List ℕ)) (mask zone : ℕ) (before now now' name : List ℕ) (first : Bool) → IsJoined names mask zone before now first → is_inside mask zone ≡ true → name ≡ slice_index_or names zone [] → now' ≡ now ++ ((if first then [] else 43 ∷ []) ++ name_text name) → IsJoined names mask (zone + 1) before now' false
+pub IsJoined-yes : (names : List (List ℕ)) (mask zone : ℕ) (before now now' name : List ℕ) (first : Bool) → IsJoined names mask zone before now first → inside mask zone ≡ true → name ≡ slice_index_or names zone [] → now' ≡ now ++ ((if first then [] else 43 ∷ []) ++ name_text name) → IsJoined names mask (zone + 1) before now' false
 IsJoined-yes names mask zone before now now' name first joined held is more =
     let grown = zones_in-yes mask zone held in
     record {
@@ -93,7 +94,7 @@ IsJoined-yes names mask zone before now now' name first joined held is more =
     not_empty [] zone = refl
     not_empty (z ∷ zones) zone = refl
 
-pub IsJoined-no : (names : List (List ℕ)) (mask zone : ℕ) (before now : List ℕ) (first : Bool) → IsJoined names mask zone before now first → is_inside mask zone ≡ false → IsJoined names mask (zone + 1) before now first
+pub IsJoined-no : (names : List (List ℕ)) (mask zone : ℕ) (before now : List ℕ) (first : Bool) → IsJoined names mask zone before now first → inside mask zone ≡ false → IsJoined names mask (zone + 1) before now first
 IsJoined-no names mask zone before now first joined out =
     let same = zones_in-no mask zone out in
     record { text = rw same joined.text; none = rw same joined.none }

@@ -1,6 +1,7 @@
 -- The text of a study's totals, line by line. 10 is the line feed, 43 is `+`, 63 is `?`.
 use Rattle.std.specs.Prelude.{ℕ, ◌/◌, ◌%◌, ◌^◌, ◌==◌, ◌||◌, Bool, nat_lt, List, [], ◌∷◌, ◌++◌, length, map, filter, codes, Option, None, Some, slice_index_or, if◌then◌else◌}
 use Rattle.std.specs.List.{range_with_len, flat_map, join_by}
+use Rattle.zone_network.specs.Sums.{inside}
 use Rattle.decimal_text.specs.DecimalText.{whole_text, fixed_text}
 use Rattle.sample_run.specs.declared.cut_rows.CutRow.{CutRow}
 use Rattle.sample_run.specs.declared.estimates.Sums.{Sums}
@@ -32,13 +33,9 @@ unfoldable pub zone_line : List (List ℕ) → Sheet → ℕ → List ℕ
 zone_line names sheet zone =
     codes "zone " ++ name_text (slice_index_or names zone []) ++ sums_text (zone_sums sheet zone) sheet.samples
 
--- whether a mask holds a zone: bit `zone` of the mask
-abbrev pub is_inside : ℕ → ℕ → Bool
-is_inside mask zone = (mask / 2 ^ zone % 2) == 1
-
 -- those of the first zones that a mask holds, in the zones' order
 unfoldable pub zones_in : ℕ → ℕ → List ℕ
-zones_in mask zones = filter (is_inside mask) (range_with_len 0 zones)
+zones_in mask zones = filter (inside mask) (range_with_len 0 zones)
 
 -- a set of zones: their names, joined by `+`
 unfoldable pub zones_text : List (List ℕ) → List ℕ → List ℕ

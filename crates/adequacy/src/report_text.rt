@@ -7,13 +7,14 @@ ghost use Rattle.system_model.specs.System.{pooled_capacity};
 ghost use Rattle.sample_run.specs.Estimates.{AreSums};
 ghost use Rattle.adequacy.specs.CheckText.{network_text, further_text, peak_text, check_line};
 ghost use Rattle.adequacy.specs.FaultText.{table_text, number_fault_text, cause_text, fixed_column_text, column_text, fault_line};
-ghost use Rattle.adequacy.specs.TotalsText.{is_inside, name_text, shown_byte, error_text, sums_text, zone_line, zones_in, zones_text, cut_line, sum_lines, totals_text};
+ghost use Rattle.adequacy.specs.TotalsText.{name_text, shown_byte, error_text, sums_text, zone_line, zones_in, zones_text, cut_line, sum_lines, totals_text};
 
 use decimal_text::{NumberFault, put_fixed, put_whole};
 use ra_base::{OutOfMemory, TableName, Text};
 use sample_run::{CutRow, Part, Sums, Totals, error, mean};
 use system_model::System;
 use system_tables::{Cause, Column, TableFault};
+use zone_network::has_zone;
 
 // The columns of lines and storages, in the order of their definitions.
 const LINE_COLUMNS: [&[u8]; 6] = [
@@ -331,20 +332,12 @@ fn put_zone_set(out: &mut Text, system: &System, mask: u32) -> Result<(), OutOfM
 {
     let mut first = true;
     for zone in 0..system.zones() {
-        if is_in(mask, zone) {
+        if has_zone(mask, zone) {
             put_joined(out, system.zone_name(zone), first)?;
             first = false;
         }
     }
     Ok(())
-}
-
-// Whether the mask holds the zone.
-fn is_in(mask: u32, zone: u8) -> bool
-    requires { zone < 32 }
-    ensures { result ≡ is_inside mask zone }
-{
-    (mask >> zone) & 1 == 1
 }
 
 // A name with a `+` in front, unless it is the first.
