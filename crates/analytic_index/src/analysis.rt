@@ -59,7 +59,8 @@ impl Analysis {
         extra: Option<NewUnit>,
     ) -> Result<Analysis, OutOfMemory>
         requires { IsExtra extra }
-        ensures { IfOk result (λ analysis. analysis ≡ pool_of system.now extra) }
+        ensures pool { IfOk result (λ analysis. analysis ≡ pool_of system.now extra) }
+        ensures rated { IfOk result (λ analysis. All (λ unit. AreRates unit.rates) analysis.units) }
     {
         let units = pooled(alloc, system, extra)?;
         let table = OutageTable::of_units(alloc, &units)?;

@@ -1,0 +1,3 @@
+pub mod SideLaws
+pub mod SearchLaws
+pub mod CertainLaws
