@@ -1,6 +1,7 @@
 //! Sums over the zones of a mask of what an outcome says of them and of their devices.
 
-ghost use Rattle.std.specs.Prelude.{◌≡◌, ◌<◌, ◌≤◌, ◌&&◌, length, slice_index};
+ghost use Rattle.std.specs.Prelude.{◌≡◌, ◌*◌, ◌<◌, ◌≤◌, ◌&&◌, length, slice_index};
+ghost use Rattle.ra_base.specs.declared.limits.TheConstants.{MOST_ZONES, MOST_LINK_MW};
 ghost use Rattle.zone_network.specs.Sums.{inside};
 ghost use Rattle.zone_network.specs.Network.{over_zones, over_devices, device_count};
 ghost use Rattle.zone_network.specs.Dispatch.{not_after};
@@ -15,7 +16,7 @@ pub(crate) fn served(net: &Network, unserved: &Amounts, zone: u8) -> u32
     requires zone { zone < net.now.shape.zones }
     requires unserved { length unserved.now ≡ net.now.shape.zones }
     ensures value { result ≡ served_but net.now unserved.now zone }
-    ensures most { result ≤ 1000000 }
+    ensures most { result ≤ MOST_LINK_MW }
 {
     net.load(zone).saturating_sub(unserved.get(zone as usize))
 }
@@ -25,7 +26,7 @@ pub(crate) fn served(net: &Network, unserved: &Amounts, zone: u8) -> u32
 pub(crate) fn served_in(net: &Network, unserved: &Amounts, mask: u32) -> u64
     requires { length unserved.now ≡ net.now.shape.zones }
     ensures value { result ≡ over_zones net.now.shape (served_but net.now unserved.now) (inside mask) }
-    ensures most { result ≤ 32000000 }
+    ensures most { result ≤ MOST_ZONES * MOST_LINK_MW }
 {
     let mut sum: u64 = 0;
     for z in 0..net.zones() {
@@ -41,7 +42,7 @@ pub(crate) fn served_in(net: &Network, unserved: &Amounts, mask: u32) -> u64
 pub(crate) fn served_not_after(net: &Network, unserved: &Amounts, mask: u32, last: u8) -> u64
     requires { length unserved.now ≡ net.now.shape.zones }
     ensures value { result ≡ over_zones net.now.shape (served_but net.now unserved.now) (λ j. inside mask j && not_after net.now.shape last j) }
-    ensures most { result ≤ 32000000 }
+    ensures most { result ≤ MOST_ZONES * MOST_LINK_MW }
 {
     let mut sum: u64 = 0;
     for z in 0..net.zones() {

@@ -1,6 +1,7 @@
 //! Sums over the zones of a mask, and over the devices and links of these zones.
 
-ghost use Rattle.std.specs.Prelude.{◌≡◌, ◌+◌, ◌<◌, ◌≤◌, if◌then◌else◌};
+ghost use Rattle.std.specs.Prelude.{◌≡◌, ◌+◌, ◌*◌, ◌<◌, ◌≤◌, if◌then◌else◌};
+ghost use Rattle.ra_base.specs.declared.limits.TheConstants.{MOST_ZONES, MOST_INTERFACES, MOST_STORAGES, MOST_LINK_MW};
 ghost use Rattle.zone_network.specs.Sums.{inside};
 ghost use Rattle.zone_network.specs.Network.{IsNetwork, link_count, enters_forward, enters_backward, forward_at, backward_at, into};
 ghost use Rattle.zone_network.specs.Cut.{load_of, supply_of, discharge_caps_of};
@@ -11,7 +12,7 @@ use zone_network::{Network, has_zone};
 #[tactic(auto, using(crate::proofs::SumSteps::sum_steps))]
 pub(crate) fn load_of(net: &Network, mask: u32) -> u64
     ensures value { result ≡ load_of net.now (inside mask) }
-    ensures most { result ≤ 32000000 }
+    ensures most { result ≤ MOST_ZONES * MOST_LINK_MW }
 {
     let mut sum: u64 = 0;
     for z in 0..net.zones() {
@@ -26,7 +27,7 @@ pub(crate) fn load_of(net: &Network, mask: u32) -> u64
 #[tactic(auto, using(crate::proofs::SumSteps::sum_steps))]
 pub(crate) fn supply_of(net: &Network, mask: u32) -> u64
     ensures value { result ≡ supply_of net.now (inside mask) }
-    ensures most { result ≤ 32000000 }
+    ensures most { result ≤ MOST_ZONES * MOST_LINK_MW }
 {
     let mut sum: u64 = 0;
     for z in 0..net.zones() {
@@ -41,7 +42,7 @@ pub(crate) fn supply_of(net: &Network, mask: u32) -> u64
 #[tactic(auto, using(crate::proofs::SumSteps::sum_steps))]
 pub(crate) fn discharge_caps_of(net: &Network, mask: u32) -> u64
     ensures value { result ≡ discharge_caps_of net.now (inside mask) }
-    ensures most { result ≤ 128000000 }
+    ensures most { result ≤ MOST_STORAGES * MOST_LINK_MW }
 {
     let mut sum: u64 = 0;
     for k in 0..net.devices() {
@@ -56,7 +57,7 @@ pub(crate) fn discharge_caps_of(net: &Network, mask: u32) -> u64
 #[tactic(auto, using(crate::proofs::SumSteps::sum_steps))]
 pub(crate) fn into(net: &Network, mask: u32) -> u64
     ensures value { result ≡ into net.now (inside mask) }
-    ensures most { result ≤ 128000000 }
+    ensures most { result ≤ MOST_INTERFACES * MOST_LINK_MW }
     ensures valid { IsNetwork net.now }
 {
     let mut sum: u64 = 0;
@@ -70,7 +71,7 @@ pub(crate) fn into(net: &Network, mask: u32) -> u64
 fn limit_into(net: &Network, mask: u32, link: u32) -> u32
     requires { link < link_count net.now.shape }
     ensures value { result ≡ (if enters_forward net.now.shape (inside mask) link then forward_at net.now link else 0) + (if enters_backward net.now.shape (inside mask) link then backward_at net.now link else 0) }
-    ensures most { result ≤ 1000000 }
+    ensures most { result ≤ MOST_LINK_MW }
 {
     let ends = net.link(link);
     let from = has_zone(mask, ends.from);

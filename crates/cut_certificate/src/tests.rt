@@ -1,13 +1,24 @@
-ghost use Rattle.std.specs.Prelude.{◌≡◌, ◌<◌, ◌≤◌, ◌^◌, All, length, IfOk};
-ghost use Rattle.zone_network.specs.Network.{device_count};
+ghost use Rattle.std.specs.Prelude.{◌≡◌, ◌<◌, ◌^◌, All, IfOk, length, vec_len};
+ghost use Rattle.zone_network.specs.Network.{IsLinkAmong};
 
 use crate::{Chain, check_chain, check_cut};
+use ra_base::limits::MOST_LINK_MW;
 use ra_base::{Amounts, OutOfMemory};
 use sample_totals::HourOutcome;
 use std::alloc::Global;
 use std::process::Abort;
 use std::test::Fail;
 use zone_network::{Link, Network, Shape};
+
+// A network. A link has its zones and its limits, forward and backward; a storage its zone and its caps, of
+// discharge and of charge.
+#[derive(Drop)]
+struct Grid<'a> {
+    supply: &'a [u32],
+    load: &'a [u32],
+    links: &'a [(u8, u8, u32, u32)],
+    devices: &'a [(u8, u32, u32)],
+}
 
 // What somebody says that an hour comes to, with a chain, and whether it is the best.
 #[derive(Drop)]
@@ -19,6 +30,94 @@ struct Claim<'a> {
     generation: &'a [u32],
     sets: &'a [u32],
     best: bool,
+}
+
+// A network with what is said of it, and with masks, totals of unserved load, and whether they are tight.
+#[derive(Drop)]
+struct Case<'a> {
+    grid: Grid<'a>,
+    cuts: &'a [(u32, u32, bool)],
+    claims: &'a [Claim<'a>],
+}
+
+fn links_of(
+    rt: &impl Abort,
+    alloc: Global,
+    zones: u8,
+    grid: &Grid,
+) -> Result<Vec<Link>, OutOfMemory>
+    ensures among { IfOk result (λ links. All (IsLinkAmong zones) links.items) }
+    ensures count { IfOk result (λ links. vec_len links ≡ length grid.now.links.now) }
+{
+    let mut links = Vec::new(alloc);
+    for (from, to, _, _) in grid.links {
+        let link = Link {
+            from: *from,
+            to: *to,
+        };
+        assert!(rt; link.from < zones);
+        assert!(rt; link.to < zones);
+        assert!(rt; link.from != link.to);
+        links.push(link)?;
+    }
+    Ok(links)
+}
+
+fn devices_of(
+    rt: &impl Abort,
+    alloc: Global,
+    zones: u8,
+    grid: &Grid,
+) -> Result<Vec<u8>, OutOfMemory>
+    ensures among { IfOk result (λ devices. All (λ zone. zone < zones) devices.items) }
+    ensures count { IfOk result (λ devices. vec_len devices ≡ length grid.now.devices.now) }
+{
+    let mut devices = Vec::new(alloc);
+    for (zone, _, _) in grid.devices {
+        assert!(rt; *zone < zones);
+        devices.push(*zone)?;
+    }
+    Ok(devices)
+}
+
+fn shape_of(rt: &impl Abort, alloc: Global, grid: &Grid) -> Result<Shape, OutOfMemory> {
+    let zones = grid.supply.len();
+    assert!(rt; zones > 0);
+    assert!(rt; zones <= 32);
+    assert!(rt; grid.links.len() <= 128);
+    assert!(rt; grid.devices.len() <= 128);
+    let links = links_of(rt, alloc, zones as u8, grid)?;
+    let devices = devices_of(rt, alloc, zones as u8, grid)?;
+    Shape::new(alloc, zones as u8, &links, &devices)
+}
+
+// Sets the network's amounts.
+fn fill(rt: &impl Abort, net: &mut Network, grid: &Grid)
+    ensures { net.new.shape ≡ net.old.shape }
+{
+    assert_eq!(rt; grid.supply.len(), net.zones() as usize);
+    assert_eq!(rt; grid.load.len(), net.zones() as usize);
+    assert_eq!(rt; grid.links.len(), net.links() as usize);
+    assert_eq!(rt; grid.devices.len(), net.devices() as usize);
+    for zone in 0..net.zones() {
+        let at = zone as usize;
+        assert!(rt; grid.supply[at] <= MOST_LINK_MW);
+        assert!(rt; grid.load[at] <= MOST_LINK_MW);
+        net.set_supply(zone, grid.supply[at]);
+        net.set_load(zone, grid.load[at]);
+    }
+    for link in 0..net.links() {
+        let (_, _, forward, backward) = grid.links[link as usize];
+        assert!(rt; forward <= MOST_LINK_MW);
+        assert!(rt; backward <= MOST_LINK_MW);
+        net.set_link(link, forward, backward);
+    }
+    for device in 0..net.devices() {
+        let (_, discharge, charge) = grid.devices[device as usize];
+        assert!(rt; discharge <= MOST_LINK_MW);
+        assert!(rt; charge <= MOST_LINK_MW);
+        net.set_caps(device, discharge, charge);
+    }
 }
 
 fn put(rt: &impl Abort, amounts: &mut Amounts, values: &[u32])
@@ -70,168 +169,344 @@ fn is_accepted(
     Ok(check_chain(net, &outcome, &chain))
 }
 
-// Two zones, 70 MW in the first, loads of 40 and 50, and a link that carries 30 to the second and nothing
-// back: the second lacks 20.
-#[test]
-fn the_second_of_two_zones_lacks_load(rt: HostRuntime) -> Result<(), Fail> {
-    let alloc = rt.alloc();
-    let shape = Shape::new(alloc, 2, &[Link { from: 0, to: 1 }], &[])?;
-    let mut net = Network::new(alloc, &shape)?;
-    net.set_supply(0, 70);
-    net.set_load(0, 40);
-    net.set_load(1, 50);
-    net.set_link(0, 30, 0);
-    // Both zones together have 90 - 70, the second has 50 - 0 - 30, the first 40 - 70, none 0.
-    for (mask, unserved, tight) in [
-        (3, 20, true),
-        (2, 20, true),
-        (3, 19, false),
-        (2, 21, false),
-        (1, 20, false),
-        (1, 0, false),
-        (0, 0, true),
-        (0, 20, false),
-    ] {
-        assert!(rt; mask < 4);
-        assert_eq!(rt; check_cut(&net, mask, unserved), tight, "{mask} {unserved}");
-    }
-    let served: ([u32; 2], [i32; 1], [u32; 2]) = ([0, 20], [30], [70, 0]);
-    let alone: ([u32; 2], [i32; 1], [u32; 2]) = ([0, 50], [0], [40, 0]);
-    for (dispatch, sets, best) in [
-        (served, [0, 3], true),
-        (served, [0, 2], true),
-        (served, [0, 0], false),
-        (served, [0, 1], false),
-        (served, [3, 3], false),
-        (alone, [0, 0], false),
-        (alone, [0, 1], false),
-        (alone, [0, 2], false),
-        (alone, [0, 3], false),
-    ] {
-        let claim = Claim {
-            unserved: &dispatch.0,
-            discharge: &[],
-            charge: &[],
-            flows: &dispatch.1,
-            generation: &dispatch.2,
-            sets: &sets,
-            best,
-        };
-        assert_eq!(rt; is_accepted(&rt, alloc, &shape, &net, &claim)?, claim.best);
-    }
-    Ok(())
-}
-
-// Three zones in a row, 10 MW in the middle one, loads of 10 at both ends, and links that carry 10 each way:
-// the first is served, the last lacks 10, and no zones but all three together are short by 10.
-#[test]
-fn the_earlier_zone_is_served(rt: HostRuntime) -> Result<(), Fail> {
-    let alloc = rt.alloc();
-    let links = [Link { from: 0, to: 1 }, Link { from: 1, to: 2 }];
-    let shape = Shape::new(alloc, 3, &links, &[])?;
-    let mut net = Network::new(alloc, &shape)?;
-    net.set_supply(1, 10);
-    net.set_load(0, 10);
-    net.set_load(2, 10);
-    net.set_link(0, 10, 10);
-    net.set_link(1, 10, 10);
-    for (mask, tight) in [(7, true), (6, false), (5, false), (4, false), (3, false)] {
-        assert!(rt; mask < 8);
-        assert_eq!(rt; check_cut(&net, mask, 10), tight, "{mask}");
-    }
-    let earlier: ([u32; 3], [i32; 2]) = ([0, 0, 10], [-10, 0]);
-    let later: ([u32; 3], [i32; 2]) = ([10, 0, 0], [0, 10]);
-    for (dispatch, sets, best) in [
-        (earlier, [0, 0, 7], true),
-        (earlier, [0, 0, 6], false),
-        (earlier, [0, 7, 7], true),
-        (later, [7, 0, 0], false),
-        (later, [1, 0, 0], false),
-        (later, [3, 0, 0], false),
-    ] {
-        let claim = Claim {
-            unserved: &dispatch.0,
-            discharge: &[],
-            charge: &[],
-            flows: &dispatch.1,
-            generation: &[0, 10, 0],
-            sets: &sets,
-            best,
-        };
-        assert_eq!(rt; is_accepted(&rt, alloc, &shape, &net, &claim)?, claim.best);
-    }
-    Ok(())
-}
-
-// One zone with 100 MW and two storages that may charge 30 each.
-fn two_storages(
+fn network_of(
+    rt: &impl Abort,
     alloc: Global,
     shape: &Shape,
-    load: u32,
-    first: u32,
-    second: u32,
+    grid: &Grid,
 ) -> Result<Network, OutOfMemory>
-    requires zones { shape.now.zones ≡ 1 }
-    requires devices { device_count shape.now ≡ 2 }
-    requires load { load ≤ 1000000 }
-    requires first { first ≤ 1000000 }
-    requires second { second ≤ 1000000 }
     ensures { IfOk result (λ net. net.shape ≡ shape.now) }
 {
     let mut net = Network::new(alloc, shape)?;
-    net.set_supply(0, 100);
-    net.set_load(0, load);
-    net.set_caps(0, first, 30);
-    net.set_caps(1, second, 30);
+    fill(rt, &mut net, grid);
     Ok(net)
 }
 
-// At a load of 120 the first storage gives the 20 that lack.
-#[test]
-fn the_last_storage_discharges_last(rt: HostRuntime) -> Result<(), Fail> {
-    let alloc = rt.alloc();
-    let shape = Shape::new(alloc, 1, &[], &[0, 0])?;
-    let net = two_storages(alloc, &shape, 120, 27, 18)?;
-    for (used, sets, best) in [
-        (([20, 0], [0, 0]), [0, 1, 0, 1, 1], true),
-        (([2, 18], [0, 0]), [0, 1, 1, 1, 1], false),
-        (([27, 0], [0, 7]), [0, 1, 0, 1, 1], false),
-    ] {
-        let claim = Claim {
-            unserved: &[0],
-            discharge: &used.0,
-            charge: &used.1,
-            flows: &[],
-            generation: &[100],
-            sets: &sets,
-            best,
-        };
-        assert_eq!(rt; is_accepted(&rt, alloc, &shape, &net, &claim)?, claim.best);
+fn assert_cut(rt: &impl Abort, net: &Network, mask: u32, unserved: u32, tight: bool) {
+    let zones = net.zones();
+    assert!(rt; zones < 32);
+    assert!(rt; mask < 1 << zones);
+    assert_eq!(rt; check_cut(net, mask, unserved), tight, "{mask} {unserved}");
+}
+
+fn assert_case(rt: &impl Abort, alloc: Global, case: &Case) -> Result<(), OutOfMemory> {
+    let shape = shape_of(rt, alloc, &case.grid)?;
+    let net = network_of(rt, alloc, &shape, &case.grid)?;
+    for (mask, unserved, tight) in case.cuts {
+        assert_cut(rt, &net, *mask, *unserved, *tight);
+    }
+    for claim in case.claims {
+        assert_eq!(rt; is_accepted(rt, alloc, &shape, &net, claim)?, claim.best);
     }
     Ok(())
 }
 
-// At a load of 50 the first storage charges its 30 and the second the 20 that are left.
 #[test]
-fn the_first_storage_charges_first(rt: HostRuntime) -> Result<(), Fail> {
-    let alloc = rt.alloc();
-    let shape = Shape::new(alloc, 1, &[], &[0, 0])?;
-    let net = two_storages(alloc, &shape, 50, 0, 0)?;
-    for (used, sets, best) in [
-        (([30, 20], [100]), [0, 0, 0, 0, 1], true),
-        (([20, 30], [100]), [0, 0, 0, 1, 0], false),
-        (([0, 0], [50]), [0, 0, 0, 1, 1], false),
-    ] {
-        let claim = Claim {
-            unserved: &[0],
-            discharge: &[0, 0],
-            charge: &used.0,
-            flows: &[],
-            generation: &used.1,
-            sets: &sets,
-            best,
-        };
-        assert_eq!(rt; is_accepted(&rt, alloc, &shape, &net, &claim)?, claim.best);
+fn claims_are_judged(rt: HostRuntime) -> Result<(), Fail> {
+    let cases = [
+        // The second of two zones lacks 20: both together have 90 - 70, the second 50 - 0 - 30, the first 40 - 70.
+        Case {
+            grid: Grid {
+                supply: &[70, 0],
+                load: &[40, 50],
+                links: &[(0, 1, 30, 0)],
+                devices: &[],
+            },
+            cuts: &[
+                (3, 20, true),
+                (2, 20, true),
+                (3, 19, false),
+                (2, 21, false),
+                (1, 20, false),
+                (1, 0, false),
+                (0, 0, true),
+                (0, 20, false),
+            ],
+            claims: &[
+                Claim {
+                    unserved: &[0, 20],
+                    discharge: &[],
+                    charge: &[],
+                    flows: &[30],
+                    generation: &[70, 0],
+                    sets: &[0, 3],
+                    best: true,
+                },
+                Claim {
+                    unserved: &[0, 20],
+                    discharge: &[],
+                    charge: &[],
+                    flows: &[30],
+                    generation: &[70, 0],
+                    sets: &[0, 2],
+                    best: true,
+                },
+                Claim {
+                    unserved: &[0, 20],
+                    discharge: &[],
+                    charge: &[],
+                    flows: &[30],
+                    generation: &[70, 0],
+                    sets: &[0, 0],
+                    best: false,
+                },
+                Claim {
+                    unserved: &[0, 20],
+                    discharge: &[],
+                    charge: &[],
+                    flows: &[30],
+                    generation: &[70, 0],
+                    sets: &[0, 1],
+                    best: false,
+                },
+                Claim {
+                    unserved: &[0, 20],
+                    discharge: &[],
+                    charge: &[],
+                    flows: &[30],
+                    generation: &[70, 0],
+                    sets: &[3, 3],
+                    best: false,
+                },
+                Claim {
+                    unserved: &[0, 50],
+                    discharge: &[],
+                    charge: &[],
+                    flows: &[0],
+                    generation: &[40, 0],
+                    sets: &[0, 0],
+                    best: false,
+                },
+                Claim {
+                    unserved: &[0, 50],
+                    discharge: &[],
+                    charge: &[],
+                    flows: &[0],
+                    generation: &[40, 0],
+                    sets: &[0, 1],
+                    best: false,
+                },
+                Claim {
+                    unserved: &[0, 50],
+                    discharge: &[],
+                    charge: &[],
+                    flows: &[0],
+                    generation: &[40, 0],
+                    sets: &[0, 2],
+                    best: false,
+                },
+                Claim {
+                    unserved: &[0, 50],
+                    discharge: &[],
+                    charge: &[],
+                    flows: &[0],
+                    generation: &[40, 0],
+                    sets: &[0, 3],
+                    best: false,
+                },
+            ],
+        },
+        // A row of three, 10 MW in the middle: the first is served, the last lacks 10.
+        Case {
+            grid: Grid {
+                supply: &[0, 10, 0],
+                load: &[10, 0, 10],
+                links: &[(0, 1, 10, 10), (1, 2, 10, 10)],
+                devices: &[],
+            },
+            cuts: &[
+                (7, 10, true),
+                (6, 10, false),
+                (5, 10, false),
+                (4, 10, false),
+                (3, 10, false),
+            ],
+            claims: &[
+                Claim {
+                    unserved: &[0, 0, 10],
+                    discharge: &[],
+                    charge: &[],
+                    flows: &[-10, 0],
+                    generation: &[0, 10, 0],
+                    sets: &[0, 0, 7],
+                    best: true,
+                },
+                Claim {
+                    unserved: &[0, 0, 10],
+                    discharge: &[],
+                    charge: &[],
+                    flows: &[-10, 0],
+                    generation: &[0, 10, 0],
+                    sets: &[0, 0, 6],
+                    best: false,
+                },
+                Claim {
+                    unserved: &[0, 0, 10],
+                    discharge: &[],
+                    charge: &[],
+                    flows: &[-10, 0],
+                    generation: &[0, 10, 0],
+                    sets: &[0, 7, 7],
+                    best: true,
+                },
+                Claim {
+                    unserved: &[10, 0, 0],
+                    discharge: &[],
+                    charge: &[],
+                    flows: &[0, 10],
+                    generation: &[0, 10, 0],
+                    sets: &[7, 0, 0],
+                    best: false,
+                },
+                Claim {
+                    unserved: &[10, 0, 0],
+                    discharge: &[],
+                    charge: &[],
+                    flows: &[0, 10],
+                    generation: &[0, 10, 0],
+                    sets: &[1, 0, 0],
+                    best: false,
+                },
+                Claim {
+                    unserved: &[10, 0, 0],
+                    discharge: &[],
+                    charge: &[],
+                    flows: &[0, 10],
+                    generation: &[0, 10, 0],
+                    sets: &[3, 0, 0],
+                    best: false,
+                },
+            ],
+        },
+        // At a load of 120 the first storage gives the 20 that lack.
+        Case {
+            grid: Grid {
+                supply: &[100],
+                load: &[120],
+                links: &[],
+                devices: &[(0, 27, 30), (0, 18, 30)],
+            },
+            cuts: &[(1, 0, false)],
+            claims: &[
+                Claim {
+                    unserved: &[0],
+                    discharge: &[20, 0],
+                    charge: &[0, 0],
+                    flows: &[],
+                    generation: &[100],
+                    sets: &[0, 1, 0, 1, 1],
+                    best: true,
+                },
+                Claim {
+                    unserved: &[0],
+                    discharge: &[2, 18],
+                    charge: &[0, 0],
+                    flows: &[],
+                    generation: &[100],
+                    sets: &[0, 1, 1, 1, 1],
+                    best: false,
+                },
+                Claim {
+                    unserved: &[0],
+                    discharge: &[27, 0],
+                    charge: &[0, 7],
+                    flows: &[],
+                    generation: &[100],
+                    sets: &[0, 1, 0, 1, 1],
+                    best: false,
+                },
+            ],
+        },
+        // At a load of 50 the first storage charges its 30 and the second the 20 that are left.
+        Case {
+            grid: Grid {
+                supply: &[100],
+                load: &[50],
+                links: &[],
+                devices: &[(0, 0, 30), (0, 0, 30)],
+            },
+            cuts: &[],
+            claims: &[
+                Claim {
+                    unserved: &[0],
+                    discharge: &[0, 0],
+                    charge: &[30, 20],
+                    flows: &[],
+                    generation: &[100],
+                    sets: &[0, 0, 0, 0, 1],
+                    best: true,
+                },
+                Claim {
+                    unserved: &[0],
+                    discharge: &[0, 0],
+                    charge: &[20, 30],
+                    flows: &[],
+                    generation: &[100],
+                    sets: &[0, 0, 0, 1, 0],
+                    best: false,
+                },
+                Claim {
+                    unserved: &[0],
+                    discharge: &[0, 0],
+                    charge: &[0, 0],
+                    flows: &[],
+                    generation: &[50],
+                    sets: &[0, 0, 0, 1, 1],
+                    best: false,
+                },
+            ],
+        },
+        // A storage serves the other zone over a link of 12, and doesn't charge from its own discharge.
+        Case {
+            grid: Grid {
+                supply: &[0, 5],
+                load: &[0, 20],
+                links: &[(0, 1, 12, 0)],
+                devices: &[(0, 15, 6)],
+            },
+            cuts: &[(2, 3, true), (3, 3, false), (3, 0, true)],
+            claims: &[
+                Claim {
+                    unserved: &[0, 3],
+                    discharge: &[12],
+                    charge: &[0],
+                    flows: &[12],
+                    generation: &[0, 5],
+                    sets: &[0, 2, 3, 3],
+                    best: true,
+                },
+                Claim {
+                    unserved: &[0, 3],
+                    discharge: &[12],
+                    charge: &[0],
+                    flows: &[12],
+                    generation: &[0, 5],
+                    sets: &[0, 2, 1, 3],
+                    best: false,
+                },
+                Claim {
+                    unserved: &[0, 3],
+                    discharge: &[13],
+                    charge: &[1],
+                    flows: &[12],
+                    generation: &[0, 5],
+                    sets: &[0, 2, 3, 3],
+                    best: false,
+                },
+                Claim {
+                    unserved: &[0, 15],
+                    discharge: &[0],
+                    charge: &[0],
+                    flows: &[0],
+                    generation: &[0, 5],
+                    sets: &[0, 2, 0, 3],
+                    best: false,
+                },
+            ],
+        },
+    ];
+    for case in &cases {
+        assert_case(&rt, rt.alloc(), case)?;
     }
     Ok(())
 }

@@ -1,23 +1,13 @@
-use Rattle.std.proofs.Common.{◌≡◌, ◌≢◌, ℕ, ◌+◌, ◌<◌, ◌⊎◌, inl, inr, false, arith}
+use Rattle.std.proofs.Common.{◌≡◌, ◌≢◌, ℕ, ◌+◌, ◌<◌, false, arith}
 use Rattle.std.specs.Prelude.{IsTrue}
-use Rattle.std.proofs.lemmas.Bool.{cases_eq, lt-ltb, ltb-true}
+use Rattle.std.proofs.lemmas.Bool.{lt-ltb}
 use Rattle.std.proofs.lemmas.Bool.Decides.{nat_tests}
 use Rattle.zone_network.specs.Network.{ShapeParts}
 use Rattle.zone_network.specs.Dispatch.{not_after, first_served}
 
 -- All that is known of the serving order stands here.
 
--- the next zone is the one at its place
-pub served-more : (s : ShapeParts) (z j : ℕ) → IsTrue (first_served s (z + 1) j) → (j ≡ z) ⊎ IsTrue (first_served s z j)
-served-more s z j h =
-    elim (cases_eq j z) [
-      | inl here ↦ inl here
-      | inr other ↦ inr (lt-ltb j z (omega (arith, ltb-true j (z + 1) h)))
-    ]
-
-pub served-stays : (s : ShapeParts) (z j : ℕ) → IsTrue (first_served s z j) → IsTrue (first_served s (z + 1) j)
-served-stays s z j h = lt-ltb j (z + 1) (omega (arith, ltb-true j z h))
-
+-- the next zone is served, and wasn't before
 pub served-itself : (s : ShapeParts) (z : ℕ) → IsTrue (first_served s (z + 1) z)
 served-itself s z = lt-ltb z (z + 1) (omega arith)
 

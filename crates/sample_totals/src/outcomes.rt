@@ -16,8 +16,9 @@ pub struct HourOutcome {
     pub charge: Amounts,
     /// What each device holds after the hour, in kWh.
     pub energy: Amounts,
-    /// The zones that are short together, as a mask with bit `z` for zone `z`; 0 where no load is
-    /// unserved.
+    /// The greatest tight set of zones, as a mask with bit `z` for zone `z`: what it lacks after its
+    /// supply, its discharge caps and the limits into it is all the unserved load. 0 in an hour without
+    /// unserved load.
     pub cut: u32,
 }
 

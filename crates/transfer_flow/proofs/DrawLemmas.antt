@@ -7,11 +7,11 @@ use Rattle.zone_network.specs.Network.{ShapeParts, NetworkParts, IsShape, link_c
 use Rattle.zone_network.proofs.LinkLists.{links_of-start, links_of-end}
 use Rattle.zone_network.specs.Masks.{AddsNumber}
 use Rattle.transfer_flow.specs.Flow.{FlowParts, flow_at, spare_at, IsWithinLimits, Moves}
-use Rattle.transfer_flow.specs.Reach.{room, way, start_of, end_of, IsUsedUp}
+use Rattle.transfer_flow.specs.Reach.{room, start_of, end_of, IsUsedUp}
 use Rattle.transfer_flow.specs.Draw.{IsEntered, IsDry, CanDraw, Draws, Carries}
 use Rattle.zone_network.proofs.MaskLemmas.{inside_zero}
 use Rattle.transfer_flow.proofs.MoveLemmas.{moves-none, moves-then, moves-along, moves-spare, carries-within}
-use Rattle.transfer_flow.proofs.WayLemmas.{one_way, both_ends, start_there}
+use Rattle.transfer_flow.proofs.WayLemmas.{both_ends, start_there}
 
 -- how far the search of a zone has come: it took the zone's own spare, and went along the first so many of the links listed
 pub record DrawsSoFar (n : NetworkParts) (old new : FlowParts) (zone before after asked drawn : ℕ) (listed : List ℕ) (upto : ℕ) : Type 0 where
@@ -241,35 +241,6 @@ draws-along n old mid new link forward seen marked after asked asked' drawn vali
           moved.others l other ∙ draws.kept l below (grown (from_zone n.shape l) p) (grown (to_zone n.shape l) q);
       still = λ nothing. absurd (omega arith);
       dry = λ nothing. absurd (omega arith);
-    }
-
--- the way into a zone comes from a zone that was seen
-pub entered-way : (n : NetworkParts) (f : FlowParts) (towards : Bool) (link : ℕ) (forward : Bool) (seen : ℕ)
-    → IsShape n.shape
-    → link < link_count n.shape
-    → IsTrue (inside seen (start_of n.shape link forward))
-    → IsEntered n f towards seen (end_of n.shape link forward) link
-entered-way n f towards link forward seen valid among h =
-    record {
-      ways =
-          λ other end room'.
-          let P : Bool → Type 0 = λ b. IsTrue (inside seen (start_of n.shape link b)) in
-          subst P (sym (one_way n.shape link forward other valid among end)) h;
-    }
-
--- and a link that is full this way needs none
-pub entered-full : (n : NetworkParts) (f : FlowParts) (towards : Bool) (link : ℕ) (forward : Bool) (seen : ℕ)
-    → IsShape n.shape
-    → link < link_count n.shape
-    → room n f link (way towards forward) ≡ 0
-    → IsEntered n f towards seen (end_of n.shape link forward) link
-entered-full n f towards link forward seen valid among full =
-    record {
-      ways =
-          λ other end room'.
-          let P : Bool → Type 0 = λ b. 0 < room n f link (way towards b) in
-          let some : 0 < room n f link (way towards forward) = subst P (one_way n.shape link forward other valid among end) room' in
-          absurd (omega arith);
     }
 
 -- how far a pull has come: the goal's own spare was taken, and searches brought more

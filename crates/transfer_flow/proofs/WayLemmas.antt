@@ -45,17 +45,6 @@ pub start_there : (s : ShapeParts) (l : ℕ) (forward : Bool) (set : NumberSet)
 start_there s l true set from to = from
 start_there s l false set from to = to
 
--- a way into a zone is this one or ends elsewhere
-pub one_way : (s : ShapeParts) (l : ℕ) (forward other : Bool)
-    → IsShape s
-    → l < link_count s
-    → end_of s l other ≡ end_of s l forward
-    → other ≡ forward
-one_way s l true true valid below e = refl
-one_way s l false false valid below e = refl
-one_way s l true false valid below e = absurd ((link_among s l valid below).apart e)
-one_way s l false true valid below e = absurd ((link_among s l valid below).apart (sym e))
-
 -- of a link that touches a zone, the way into it
 pub way_into : (s : ShapeParts) (zone l : ℕ) → touches_at s.ends zone l ≡ true → end_of s l (to_zone s l == zone) ≡ zone
 way_into s zone l touches =

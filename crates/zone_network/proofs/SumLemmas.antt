@@ -236,6 +236,13 @@ sum_where-regroup set place f places (suc n) h =
     sum_where-one set (place n) (f n) places (h n (omega arith)) in
     omega (arith, sum_where-suc (λ i. set (place i)) f n)
 
+-- of one term
+crossing_term : (a b : Bool) (x most : ℕ) → x ≤ most → cond b x 0 ≤ cond a x 0 + cond (not a && b) most 0
+crossing_term true true x most le = omega arith
+crossing_term true false x most le = omega arith
+crossing_term false true x most le = omega arith
+crossing_term false false x most le = omega arith
+
 -- what f has over q is at most what it has over p and the limits of what is in q and not in p
 pub sum_where-crossing : (p q : NumberSet) (f limit : ℕ → ℕ) (n : ℕ)
     → ((i : ℕ) → i < n → f i ≤ limit i)
@@ -247,12 +254,6 @@ sum_where-crossing p q f limit (suc n) h =
     let here : cond (q n) (f n) 0 ≤ cond (p n) (f n) 0 + cond (not (p n) && q n) (limit n) 0 =
     crossing_term (p n) (q n) (f n) (limit n) (h n (omega arith)) in
     omega (arith, sum_where-suc q f n, sum_where-suc p f n, sum_where-suc (λ i. not (p i) && q i) limit n)
-  where
-    crossing_term : (a b : Bool) (x most : ℕ) → x ≤ most → cond b x 0 ≤ cond a x 0 + cond (not a && b) most 0
-    crossing_term true true x most le = omega arith
-    crossing_term true false x most le = omega arith
-    crossing_term false true x most le = omega arith
-    crossing_term false false x most le = omega arith
 
 -- the same as an equation, where what enters is at its limit and nothing leaves
 pub sum_where-crossing_full : (p q : NumberSet) (f limit : ℕ → ℕ) (n : ℕ)
@@ -300,12 +301,6 @@ sum_where-crossing_forced p q f limit (suc n) h most i below =
       | inr other ↦ sum_where-crossing_forced p q f limit n (λ j less. h j (omega arith)) (omega arith) i (omega arith)
     ]
   where
-    crossing_term : (a b : Bool) (x most : ℕ) → x ≤ most → cond b x 0 ≤ cond a x 0 + cond (not a && b) most 0
-    crossing_term true true x most le = omega arith
-    crossing_term true false x most le = omega arith
-    crossing_term false true x most le = omega arith
-    crossing_term false false x most le = omega arith
-
     forced_term : (a b : Bool) (x most : ℕ)
         → x ≤ most
         → cond a x 0 + cond (not a && b) most 0 ≤ cond b x 0

@@ -22,13 +22,16 @@ check_chain-requires g c =
     let devices = c.devices.ensures.count in
     let shape = sym c.requires in
     record {
-      unserved = c.put.ensures ∙ ap (λ (o : HourOutcome). length o.unserved) outcome ∙ length-replicate _ _ ∙ zones;
-      discharge = c.put-2.ensures ∙ ap (λ (o : HourOutcome). length o.discharge) outcome ∙ length-replicate _ _ ∙ devices;
-      charge = c.put-3.ensures ∙ ap (λ (o : HourOutcome). length o.charge) outcome ∙ length-replicate _ _ ∙ devices;
-      energy = ap (λ (o : HourOutcome). length o.energy) outcome ∙ length-replicate _ _ ∙ devices;
-      flows = c.loop-l.invariant.flows ∙ ap (λ (h : Chain). length h.flows) chain ∙ length-replicate _ _ ∙ ap link_count shape;
-      generation = c.put-4.ensures ∙ ap length c.loop-l.invariant.generation ∙ ap (λ (h : Chain). length h.generation) chain ∙ length-replicate _ _ ∙ ap (λ (s : ShapeParts). s.zones) shape;
-      sets = c.put_masks.ensures.size ∙ ap length c.loop-l.invariant.sets ∙ ap (λ (h : Chain). length h.sets) chain ∙ length-replicate _ _ ∙ ap (λ (s : ShapeParts). s.zones + device_count s + device_count s) shape;
+      sizes =
+          record {
+            unserved = c.put.ensures ∙ ap (λ (o : HourOutcome). length o.unserved) outcome ∙ length-replicate _ _ ∙ zones;
+            discharge = c.put-2.ensures ∙ ap (λ (o : HourOutcome). length o.discharge) outcome ∙ length-replicate _ _ ∙ devices;
+            charge = c.put-3.ensures ∙ ap (λ (o : HourOutcome). length o.charge) outcome ∙ length-replicate _ _ ∙ devices;
+            energy = ap (λ (o : HourOutcome). length o.energy) outcome ∙ length-replicate _ _ ∙ devices;
+            flows = c.loop-l.invariant.flows ∙ ap (λ (h : Chain). length h.flows) chain ∙ length-replicate _ _ ∙ ap link_count shape;
+            generation = c.put-4.ensures ∙ ap length c.loop-l.invariant.generation ∙ ap (λ (h : Chain). length h.generation) chain ∙ length-replicate _ _ ∙ ap (λ (s : ShapeParts). s.zones) shape;
+            sets = c.put_masks.ensures.size ∙ ap length c.loop-l.invariant.sets ∙ ap (λ (h : Chain). length h.sets) chain ∙ length-replicate _ _ ∙ ap (λ (s : ShapeParts). s.zones + device_count s + device_count s) shape;
+          };
       masks =
           let P : ℕ → Type 0 = λ bits. All (λ mask. mask < 2 ^ bits) c.put_masks.new.sets in
           subst P zones c.put_masks.ensures.masks;
