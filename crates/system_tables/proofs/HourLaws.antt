@@ -1,4 +1,4 @@
-use Rattle.std.proofs.Common.{◌≡◌, ℕ, ◌+◌, ◌<◌, ◌≤◌, List, [], ◌∷◌, ◌++◌, length, get_or, take, drop, set, sum, map, replicate, All, Option, None, Some, Result, Ok, Err, refl, sym, ap, ◌∙◌, suc, add-one, arith}
+use Rattle.std.proofs.Common.{◌≡◌, ℕ, ◌+◌, ◌<◌, ◌≤◌, List, [], ◌∷◌, ◌++◌, length, get_or, take, drop, set, sum, map, replicate, All, Option, Result, Ok, Err, sym, ap, ◌∙◌, suc, arith}
 use Rattle.std.proofs.Math.Seq.{take-suc-set}
 use Rattle.std.proofs.lemmas.List.{at_drop_more, at_drop_all}
 use Rattle.std.proofs.lemmas.List.{length-replicate}
@@ -15,7 +15,7 @@ use Rattle.system_tables.specs.declared.faults.ReadError.{ReadError}
 use Rattle.system_tables.specs.declared.faults.ReadError.TheVariants.{Table, OutOfMemory}
 use Rattle.system_tables.specs.Faults.{◌>>=◌, in_turn}
 use Rattle.system_tables.specs.Hours.{HoursAbove, IsHoursRead, IsAmountRow, amount_in, next_amount_in}
-use Rattle.system_tables.specs.Outcome.{GivesNow, GivesRead}
+use Rattle.system_tables.specs.Outcome.{GivesNow}
 use Rattle.system_tables.proofs.TurnLaws.{in_turn-err}
 
 pub drop-next : {A : Type 0} (xs : List A) (i : ℕ) (x d : A)

@@ -4,6 +4,6 @@ pub mod RowLaws
 pub mod NameLaws
 pub mod ColumnLaws
 pub mod TurnLaws
-pub mod SoFarLaws
+pub mod SoFar
 pub mod HourLaws
 pub mod OutcomeLaws

@@ -1,4 +1,4 @@
-use Rattle.std.proofs.Common.{◌≡◌, ℕ, ◌⊎◌, inl, inr, List, [], Option, None, Some, Result, Ok, Err, refl, sym, ap, ◌∙◌, length, true, false, option_map, unwrap_or}
+use Rattle.std.proofs.Common.{◌≡◌, ℕ, ◌⊎◌, inl, inr, List, Option, None, Some, Result, Ok, Err, refl, sym, ap, ◌∙◌, length, true, false}
 use Rattle.ra_base.specs.declared.table.TableBytes.{TableBytes}
 use Rattle.ra_base.specs.declared.limits.TheConstants.{MOST_HOURS}
 use Rattle.ra_base.specs.declared.table.TableName.{TableName}
@@ -9,9 +9,9 @@ use Rattle.system_tables.specs.Faults.{◌>>=◌, table_in}
 use Rattle.system_tables.specs.Records.{records_of}
 use Rattle.system_tables.specs.Zones.{with_zones, zone_rows_in}
 use Rattle.system_tables.specs.Units.{with_units, unit_rows_in}
-use Rattle.system_tables.specs.Interfaces.{with_interfaces, interface_rows_in}
-use Rattle.system_tables.specs.Lines.{with_lines, line_rows_in}
-use Rattle.system_tables.specs.Storages.{with_storages, storage_rows_in}
+use Rattle.system_tables.specs.Interfaces.{interface_rows_in}
+use Rattle.system_tables.specs.Lines.{line_rows_in}
+use Rattle.system_tables.specs.Storages.{storage_rows_in}
 use Rattle.system_tables.specs.Hours.{with_hours, amounts_in, variables_in, hour_rows_in, some_hour_in, all_hours_in, hours_of}
 use Rattle.system_tables.specs.Tables.{where_there, bytes_of, system_of, Reads, FirstFault, HaveOneOutcome, HaveSameRecords, records_in}
 

@@ -1,4 +1,4 @@
-use Rattle.std.proofs.Common.{◌≡◌, ℕ, zero, suc, ◌+◌, ◌<◌, ◌≤◌, ◌==◌, ◌||◌, Bool, true, false, if◌then◌else◌, List, [], ◌∷◌, ◌++◌, length, drop, take, ◌&&◌, not, Option, Some, None, refl, sym, ap, ◌∙◌, subst, arith}
+use Rattle.std.proofs.Common.{◌≡◌, ℕ, zero, suc, ◌+◌, ◌<◌, ◌≤◌, ◌==◌, Bool, true, false, if◌then◌else◌, List, [], ◌∷◌, ◌++◌, length, ◌&&◌, not, Option, Some, None, refl, sym, ap, ◌∙◌, subst, arith}
 use Rattle.std.proofs.lemmas.Bool.{false≢true}
 use Rattle.csv.specs.declared.parser.Action.{Action}
 use Rattle.csv.specs.declared.parser.Action.TheVariants as act
@@ -8,10 +8,9 @@ use Rattle.csv.specs.declared.parser.Terminator.TheVariants as term
 use Rattle.csv.specs.Machine.{Read, step, in_field, start_field, start_record, after_end, ends_with, ends_at_end, is_end, fields_after, field_after, next_record}
 use Rattle.std.specs.Borrow.{Bor}
 use Rattle.std.specs.Option.{is_some}
-use Rattle.csv.specs.Reading.{default_config, records_from, records_next, NextIs, ReadsNext, ReadRecord, Ready, source_of, unread_of, buffered_of, pending_of, strip_bom, has_failed, reader_config, reader_trim, reader_state, took_first}
+use Rattle.csv.specs.Reading.{default_config, records_from, records_next, NextIs, ReadsNext, ReadRecord, source_of, pending_of, strip_bom, has_failed, reader_config, reader_state}
 use Rattle.csv.specs.declared.reader.Reader.{Reader}
-use Rattle.system_tables.specs.Reader.{all_from, IsOpen}
-use Rattle.system_tables.specs.declared.records.Records.TheInside.{Inside}
+use Rattle.system_tables.specs.Reader.{all_from}
 
 -- a record's end leaves a state between two records
 abbrev IsBetween : State × Action → Type 0

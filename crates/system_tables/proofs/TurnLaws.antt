@@ -3,7 +3,7 @@ use Rattle.system_tables.specs.declared.faults.TableFault.{TableFault}
 use Rattle.system_tables.specs.declared.faults.ReadError.{ReadError}
 use Rattle.system_tables.specs.declared.faults.ReadError.TheVariants.{Table, OutOfMemory}
 use Rattle.system_tables.specs.Faults.{◌>>=◌, in_turn}
-use Rattle.system_tables.specs.Outcome.{Gives, GivesNow}
+use Rattle.system_tables.specs.Outcome.{GivesNow}
 
 in_turn-none : {A B : Type 0} (one : A → B → Result A TableFault) (above : A) → in_turn one above [] ≡ Ok above
 unfolding in_turn

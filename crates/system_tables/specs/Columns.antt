@@ -1,5 +1,5 @@
 -- Columns, found by comparing the header's fields with their names.
-use Rattle.std.specs.Prelude.{ℕ, ◌+◌, List, [], ◌∷◌, if◌then◌else◌, Option, None, Some, Result, Ok, Err, slice_index_or}
+use Rattle.std.specs.Prelude.{ℕ, ◌+◌, List, [], ◌∷◌, if◌then◌else◌, Option, None, Some, Ok, Err, slice_index_or}
 use Rattle.std.specs.Str.{bytes_eq}
 use Rattle.ra_base.specs.declared.table.TableName.{TableName}
 use Rattle.system_tables.specs.declared.columns.Found.{Found}

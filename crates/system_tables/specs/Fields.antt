@@ -1,5 +1,5 @@
 -- Fields by the kind of their column: numbers, rates, names and references.
-use Rattle.std.specs.Prelude.{ℕ, ◌/◌, ◌≤◌, ◌<◌, ◌==◌, ◌&&◌, Bool, List, length, nat_lt, Option, None, Some, Result, Ok, Err, codes, position}
+use Rattle.std.specs.Prelude.{ℕ, ◌/◌, ◌≤◌, ◌==◌, ◌&&◌, List, length, nat_lt, Option, None, Some, Result, Ok, Err, codes, position}
 use Rattle.std.specs.Str.{bytes_eq}
 use Rattle.decimal_text.specs.Reading.{whole_of, billionths_of}
 use Rattle.decimal_text.specs.declared.fault.NumberFault.{NumberFault}
@@ -9,7 +9,6 @@ use Rattle.system_tables.specs.declared.columns.FoundColumn.{FoundColumn}
 use Rattle.system_tables.specs.declared.faults.Cause.TheVariants.{Number, OutOfRange, NameTwice, NameUnknown, Empty, BothRatesZero}
 use Rattle.system_tables.specs.declared.faults.Column.{Column}
 use Rattle.system_tables.specs.declared.faults.Place.{Place}
-use Rattle.system_tables.specs.declared.faults.TableFault.{TableFault}
 use Rattle.system_tables.specs.declared.fields.RateColumns.{RateColumns}
 use Rattle.system_tables.specs.Columns.{field_of}
 use Rattle.system_tables.specs.Faults.{Read, ◌>>=◌, fault_at, refuse}

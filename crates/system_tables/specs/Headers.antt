@@ -1,5 +1,5 @@
 -- The first record of a table.
-use Rattle.std.specs.Prelude.{◌≡◌, ℕ, List, [], ◌∷◌, Result, Ok, Err}
+use Rattle.std.specs.Prelude.{◌≡◌, [], ◌∷◌, Result, Ok, Err}
 use Rattle.ra_base.specs.declared.table.TableName.{TableName}
 use Rattle.system_tables.specs.declared.faults.Cause.TheVariants.{NoHeader}
 use Rattle.system_tables.specs.declared.faults.Column.TheVariants.{Whole}

@@ -12,7 +12,6 @@ use Rattle.system_tables.specs.declared.faults.Column.TheVariants.{Fixed, Zone, 
 use Rattle.system_tables.specs.declared.faults.Place.{Place}
 use Rattle.system_tables.specs.declared.faults.ReadError.{ReadError}
 use Rattle.system_tables.specs.declared.faults.ReadError.TheVariants.{Table, OutOfMemory}
-use Rattle.system_tables.specs.declared.faults.TableFault.{TableFault}
 use Rattle.system_tables.specs.Columns.{column_in, optional_column_in}
 use Rattle.system_tables.specs.Faults.{Read, ◌>>=◌, fault_at, below, refuse, in_turn, table_in, shape_in}
 use Rattle.system_tables.specs.Fields.{whole_in, value_in}

@@ -1,18 +1,15 @@
 -- The table of lines.
-use Rattle.std.specs.Prelude.{◌≡◌, ℕ, ◌+◌, ◌==◌, List, [], ◌∷◌, ◌++◌, length, nat_lt, Option, None, Some, Result, Ok, Err, codes}
+use Rattle.std.specs.Prelude.{ℕ, List, [], ◌∷◌, ◌++◌, length, Ok, codes}
 use Rattle.ra_base.specs.declared.limits.TheConstants.{MOST_LINES, MOST_LINK_MW}
 use Rattle.ra_base.specs.declared.table.TableName.TheVariants.{Lines}
 use Rattle.system_model.specs.declared.components.Line.{Line}
-use Rattle.system_model.specs.Components.{IsLineAmong}
 use Rattle.system_model.specs.System.{SystemParts, line_count}
-use Rattle.system_tables.specs.declared.faults.Cause.TheVariants.{OutOfRange, SameZone}
 use Rattle.system_tables.specs.declared.faults.Column.TheVariants.{Fixed}
 use Rattle.system_tables.specs.declared.faults.Place.{Place}
-use Rattle.system_tables.specs.declared.faults.TableFault.{TableFault}
 use Rattle.system_tables.specs.declared.lines.LineColumns.{LineColumns}
 use Rattle.system_tables.specs.Columns.{column_in}
-use Rattle.system_tables.specs.Faults.{Read, ◌>>=◌, fault_at, below, refuse, in_turn, table_in, shape_in}
-use Rattle.system_tables.specs.Fields.{whole_in, value_in, share_in, rates_in, some_rate_in, name_in, reference_in}
+use Rattle.system_tables.specs.Faults.{Read, ◌>>=◌, below, in_turn, table_in, shape_in}
+use Rattle.system_tables.specs.Fields.{whole_in, rates_in, some_rate_in, name_in, reference_in}
 use Rattle.system_tables.specs.Names.{Names}
 use Rattle.system_tables.specs.Records.{Row, Rows, records_of}
 

@@ -1,5 +1,5 @@
 -- What a reading call answers, where memory is found.
-use Rattle.std.specs.Prelude.{◌≡◌, ℕ, List, Result, Ok, Err}
+use Rattle.std.specs.Prelude.{◌≡◌, Result, Ok, Err}
 use Rattle.system_tables.specs.declared.faults.TableFault.{TableFault}
 use Rattle.system_tables.specs.declared.faults.ReadError.{ReadError}
 use Rattle.system_tables.specs.declared.faults.ReadError.TheVariants.{Table, OutOfMemory}

@@ -1,5 +1,5 @@
 -- What a reader over a table's bytes has left.
-use Rattle.std.specs.Prelude.{◌≡◌, ℕ, ◌+◌, List, [], ◌∷◌, length, map, Bool, true, false, Option, None, Some, if◌then◌else◌}
+use Rattle.std.specs.Prelude.{◌≡◌, ℕ, ◌+◌, List, [], length, map, false, Option, None, Some, if◌then◌else◌}
 use Rattle.csv.specs.Machine.{ends_at_end}
 use Rattle.csv.specs.Reading.{default_config, records_from, source_of, has_failed, reader_config, reader_trim, reader_state, Ready}
 use Rattle.csv.specs.Records.{fields_of}

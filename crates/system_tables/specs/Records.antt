@@ -39,7 +39,7 @@ abbrev pub without_spaces : List ℕ → List ℕ
 without_spaces field = without_end (without_front field)
 
 -- The records of a table. One byte order mark in front is dropped, and `csv` drops one at the start of what
--- it reads. Its delimiter, quotes and line ends are the usual ones, records may differ in length, and no record
--- is taken for a header.
+-- it reads. Its delimiter, quotes and line ends are the usual ones, records may differ in length, and none is
+-- taken for a header.
 abbrev pub records_of : List ℕ → Rows
 records_of bytes = map (map without_spaces) (records default_config (strip_bom (strip_bom bytes)))

@@ -1,5 +1,5 @@
 -- What is kept beside a draft while its tables are read.
-use Rattle.std.specs.Prelude.{◌≡◌, ℕ, ◌≤◌, List, [], length}
+use Rattle.std.specs.Prelude.{◌≡◌, ℕ, ◌≤◌, [], length}
 use Rattle.ra_base.specs.declared.limits.TheConstants.{MOST_ZONES, MOST_UNITS, MOST_INTERFACES, MOST_LINES, MOST_STORAGES, MOST_POOLED_MW}
 use Rattle.system_model.specs.Components.{pooled_capacity, pooled_charge, pooled_discharge}
 use Rattle.system_model.specs.System.{SystemParts, no_parts, unit_count, interface_count, line_count, storage_count}

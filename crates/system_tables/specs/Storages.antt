@@ -1,14 +1,13 @@
 -- The table of storages.
-use Rattle.std.specs.Prelude.{◌≡◌, ℕ, ◌+◌, ◌==◌, List, [], ◌∷◌, ◌++◌, length, nat_lt, Option, None, Some, Result, Ok, Err, codes}
+use Rattle.std.specs.Prelude.{ℕ, ◌+◌, List, [], ◌∷◌, ◌++◌, length, nat_lt, Ok, codes}
 use Rattle.ra_base.specs.declared.limits.TheConstants.{MOST_ENERGY_KWH, MOST_POOLED_MW, MOST_STORAGES}
 use Rattle.ra_base.specs.declared.table.TableName.TheVariants.{Storages}
 use Rattle.system_model.specs.declared.components.Storage.{Storage}
 use Rattle.system_model.specs.Components.{pooled_charge, pooled_discharge}
 use Rattle.system_model.specs.System.{SystemParts, storage_count}
-use Rattle.system_tables.specs.declared.faults.Cause.TheVariants.{OutOfRange, SameZone}
+use Rattle.system_tables.specs.declared.faults.Cause.TheVariants.{OutOfRange}
 use Rattle.system_tables.specs.declared.faults.Column.TheVariants.{Fixed}
 use Rattle.system_tables.specs.declared.faults.Place.{Place}
-use Rattle.system_tables.specs.declared.faults.TableFault.{TableFault}
 use Rattle.system_tables.specs.declared.storages.StorageColumns.{StorageColumns}
 use Rattle.system_tables.specs.Columns.{column_in}
 use Rattle.system_tables.specs.Faults.{Read, ◌>>=◌, fault_at, below, refuse, in_turn, table_in, shape_in}

@@ -1,5 +1,5 @@
 -- What seven tables give: the system that they spell, or their first fault.
-use Rattle.std.specs.Prelude.{◌≡◌, ℕ, ◌⊎◌, List, [], Option, None, Some, Result, Ok, Err, unwrap_or, option_map}
+use Rattle.std.specs.Prelude.{◌≡◌, ℕ, ◌⊎◌, List, [], Option, None, Some, Ok, Err, unwrap_or, option_map}
 use Rattle.ra_base.specs.declared.table.TableBytes.{TableBytes}
 use Rattle.system_model.specs.System.{SystemParts, no_parts}
 use Rattle.system_tables.specs.declared.faults.TableFault.{TableFault}
@@ -13,7 +13,8 @@ use Rattle.system_tables.specs.Storages.{with_storages}
 use Rattle.system_tables.specs.Hours.{with_hours}
 
 -- the rows of a table, where there is such a table
-unfoldable pub where_there : (SystemParts → List ℕ → Read SystemParts) → SystemParts → Option (List ℕ) → Read SystemParts
+unfoldable pub where_there : (SystemParts → List ℕ → Read SystemParts) → SystemParts → Option (List ℕ)
+    → Read SystemParts
 where_there read above None = Ok above
 where_there read above (Some bytes) = read above bytes
 
@@ -50,8 +51,8 @@ pub record HaveOneOutcome (tables : TableBytes) : Type 0 where
 abbrev pub records_in : Option (List ℕ) → Option Rows
 records_in table = option_map records_of table
 
--- Both have the same tables with the same records, whatever their quotes, spaces and line ends are, and whether
--- a byte order mark stands in front.
+-- Both have the same tables with the same records, whatever their quotes, spaces and line ends are, and
+-- whether a byte order mark stands in front.
 pub record HaveSameRecords (a b : TableBytes) : Type 0 where
   pub zones : records_in a.zones ≡ records_in b.zones
   pub units : records_in a.units ≡ records_in b.units

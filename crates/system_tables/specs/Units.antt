@@ -1,18 +1,17 @@
 -- The table of units.
-use Rattle.std.specs.Prelude.{◌≡◌, ℕ, ◌+◌, ◌==◌, List, [], ◌∷◌, ◌++◌, length, nat_lt, Option, None, Some, Result, Ok, Err, codes}
+use Rattle.std.specs.Prelude.{ℕ, ◌+◌, List, [], ◌∷◌, ◌++◌, length, nat_lt, Ok, codes}
 use Rattle.ra_base.specs.declared.limits.TheConstants.{MOST_POOLED_MW, MOST_UNITS}
 use Rattle.ra_base.specs.declared.table.TableName.TheVariants.{Units}
 use Rattle.system_model.specs.declared.components.Unit.{Unit as UnitPart}
 use Rattle.system_model.specs.Components.{pooled_capacity}
 use Rattle.system_model.specs.System.{SystemParts, unit_count}
-use Rattle.system_tables.specs.declared.faults.Cause.TheVariants.{OutOfRange, SameZone}
+use Rattle.system_tables.specs.declared.faults.Cause.TheVariants.{OutOfRange}
 use Rattle.system_tables.specs.declared.faults.Column.TheVariants.{Fixed}
 use Rattle.system_tables.specs.declared.faults.Place.{Place}
-use Rattle.system_tables.specs.declared.faults.TableFault.{TableFault}
 use Rattle.system_tables.specs.declared.units.UnitColumns.{UnitColumns}
 use Rattle.system_tables.specs.Columns.{column_in}
 use Rattle.system_tables.specs.Faults.{Read, ◌>>=◌, fault_at, below, refuse, in_turn, table_in, shape_in}
-use Rattle.system_tables.specs.Fields.{whole_in, value_in, share_in, rates_in, some_rate_in, name_in, reference_in}
+use Rattle.system_tables.specs.Fields.{whole_in, rates_in, some_rate_in, name_in, reference_in}
 use Rattle.system_tables.specs.Names.{Names}
 use Rattle.system_tables.specs.Records.{Row, Rows, records_of}
 

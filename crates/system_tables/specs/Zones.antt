@@ -1,14 +1,13 @@
 -- The table of zones.
-use Rattle.std.specs.Prelude.{ℕ, ◌==◌, List, [], ◌∷◌, ◌++◌, length, Result, Ok, Err, codes}
+use Rattle.std.specs.Prelude.{ℕ, ◌==◌, List, [], ◌∷◌, ◌++◌, length, Ok, codes}
 use Rattle.ra_base.specs.declared.limits.TheConstants.{MOST_ZONES}
 use Rattle.ra_base.specs.declared.table.TableName.TheVariants.{Zones}
 use Rattle.system_model.specs.System.{SystemParts, zone_count}
 use Rattle.system_tables.specs.declared.faults.Cause.TheVariants.{Empty}
 use Rattle.system_tables.specs.declared.faults.Column.TheVariants.{Fixed}
-use Rattle.system_tables.specs.declared.faults.TableFault.{TableFault}
 use Rattle.system_tables.specs.declared.zones.ZoneColumns.{ZoneColumns}
 use Rattle.system_tables.specs.Columns.{column_in}
-use Rattle.system_tables.specs.Faults.{Read, ◌>>=◌, fault_at, row_of, below, refuse, in_turn, table_in, shape_in}
+use Rattle.system_tables.specs.Faults.{Read, ◌>>=◌, fault_at, below, refuse, in_turn, table_in, shape_in}
 use Rattle.system_tables.specs.Fields.{zone_name_in}
 use Rattle.system_tables.specs.Records.{Row, Rows, records_of}
 

@@ -247,8 +247,8 @@ fn read_rows(
     requires limit { limit ≤ MOST_HOURS }
     requires no_columns { columns.old.items ≡ [] }
     requires none { amounts.old.items ≡ [] }
-    ensures exact { IsHoursRead (table_in table rows.old.rest (hour_rows_in required table limit zones.now)) result
-        amounts.new.items }
+    ensures exact { IsHoursRead (table_in table rows.old.rest (hour_rows_in required table limit zones.now))
+        result amounts.new.items }
     ensures room { OnOk result (length amounts.new.items ≤ limit) }
     ensures rows { OnOk result (All (IsAmountRow (length zones.now)) amounts.new.items) }
 {

@@ -129,8 +129,8 @@ fn read_rows(
     rows: &mut Records<'_>,
 ) -> Result<(), ReadError>
     requires so_far { AreInterfacesSoFar draft.old zones.now names.old }
-    ensures exact { GivesNow (table_in TableName.Interfaces rows.old.rest (interface_rows_in draft.old)) result
-        draft.new }
+    ensures exact { GivesNow (table_in TableName.Interfaces rows.old.rest (interface_rows_in draft.old))
+        result draft.new }
     ensures so_far { OnOk result (AreInterfacesSoFar draft.new zones.now names.new) }
 {
     header(TableName::Interfaces, rows)?;
@@ -140,7 +140,7 @@ fn read_rows(
 }
 
 /// Adds the interfaces of the table, where there is one, and their names.
-#[tactic(auto, using(crate::proofs::SoFarLaws::start_interfaces), unfolding(crate::specs::Tables::where_there))]
+#[tactic(auto, using(crate::proofs::SoFar::start_interfaces), unfolding(crate::specs::Tables::where_there))]
 pub(crate) fn read_interfaces(
     alloc: Global,
     table: &Option<Text>,

@@ -144,7 +144,7 @@ fn read_rows(
 }
 
 /// Adds the lines of the table, where there is one.
-#[tactic(auto, using(crate::proofs::SoFarLaws::start_lines), unfolding(crate::specs::Tables::where_there))]
+#[tactic(auto, using(crate::proofs::SoFar::start_lines), unfolding(crate::specs::Tables::where_there))]
 pub(crate) fn read_lines(
     alloc: Global,
     table: &Option<Text>,

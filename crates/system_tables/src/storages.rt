@@ -206,7 +206,7 @@ fn read_rows(
 }
 
 /// Adds the storages of the table, where there is one.
-#[tactic(auto, using(crate::proofs::SoFarLaws::start_storages), unfolding(crate::specs::Tables::where_there))]
+#[tactic(auto, using(crate::proofs::SoFar::start_storages), unfolding(crate::specs::Tables::where_there))]
 pub(crate) fn read_storages(
     alloc: Global,
     table: &Option<Text>,

@@ -141,7 +141,7 @@ fn read_rows(
 }
 
 /// Adds the units of the table.
-#[tactic(auto, using(crate::proofs::SoFarLaws::start_units))]
+#[tactic(auto, using(crate::proofs::SoFar::start_units))]
 pub(crate) fn read_units(
     alloc: Global,
     table: &[u8],

@@ -1,4 +1,4 @@
-use Rattle.std.proofs.Common.{◌≡◌, Bool, true, false, not, List, ℕ, [], sym, ap, ◌∙◌, subst, get_or, arith}
+use Rattle.std.proofs.Common.{◌≡◌, true, false, List, ℕ, [], sym, ap, ◌∙◌, subst, get_or, arith}
 use Rattle.std.specs.Str.{bytes_eq}
 use Rattle.system_tables.proofs.NameLaws.{not-true, not-false}
 use Rattle.system_tables.proofs.ColumnLaws.{AreSoFar, so_far-twice, so_far-first, so_far-other, so_far-some, so_far-none}

@@ -1,4 +1,4 @@
-use Rattle.std.proofs.Common.{◌≡◌, [], ◌∷◌, Ok, None, true, false, sym, ◌∙◌, ap, rules}
+use Rattle.std.proofs.Common.{◌≡◌, [], ◌∷◌, Ok, None, sym, ◌∙◌, ap, rules}
 use Rattle.system_tables.specs.Hours.{hour_in, hours_above}
 use Rattle.system_tables.proofs.TurnLaws.{in_turn-end, in_turn-ok}
 use Rattle.system_tables.proofs.HourLaws.{hours-stop}

@@ -1,4 +1,4 @@
-use Rattle.std.proofs.Common.{◌≡◌, ◌+◌, [], ◌∷◌, List, ℕ, drop, sym, ◌∙◌, ap, rules, arith}
+use Rattle.std.proofs.Common.{◌≡◌, ◌+◌, [], ◌∷◌, drop, sym, ◌∙◌, rules, arith}
 use Rattle.system_tables.specs.Hours.{next_column_in}
 use Rattle.system_tables.proofs.TurnLaws.{in_turn-end, in_turn-ok, stops}
 use Rattle.system_tables.proofs.HourLaws.{drop-next, drop-past}

@@ -1,7 +1,7 @@
 use Rattle.std.proofs.Common.{◌≡◌, [], ◌∷◌, ◌++◌, List, get_or, sym, ap, ◌∙◌, arith}
 use Rattle.std.proofs.lemmas.List.{get_or_default}
 use Rattle.system_model.specs.System.{SystemParts, HourAmounts, amounts_of, zone_count, hour_count}
-use Rattle.system_tables.proofs.HourLaws.{hour_among, pushed, pushed-more, pushed-counted}
+use Rattle.system_tables.proofs.HourLaws.{hour_among, pushed-more, pushed-counted}
 use Rattle.system_tables.proofs.hours.push_hours.Goals as goal
 
 pub push_hour-requires-clause-room : goal.push_hour-requires-clause-room

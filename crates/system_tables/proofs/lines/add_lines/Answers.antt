@@ -1,4 +1,4 @@
-use Rattle.std.proofs.Common.{◌≡◌, ◌∷◌, Ok, true, false, sym, ◌∙◌, ap, rules}
+use Rattle.std.proofs.Common.{◌≡◌, ◌∷◌, Ok, sym, ◌∙◌, ap, rules}
 use Rattle.system_tables.specs.Lines.{line_in}
 use Rattle.system_tables.proofs.TurnLaws.{in_turn-end, in_turn-ok, stops}
 use Rattle.system_tables.proofs.lines.add_lines.Goals as goal

@@ -1,4 +1,4 @@
-use Rattle.std.proofs.Common.{◌∙◌, sym, arith, length, take}
+use Rattle.std.proofs.Common.{sym, arith}
 use Rattle.system_tables.proofs.TextLaws.{end_is}
 use Rattle.system_tables.proofs.records.without_end.Goals as goal
 

@@ -1,4 +1,4 @@
-use Rattle.std.proofs.Common.{◌∙◌, sym, arith, length, drop}
+use Rattle.std.proofs.Common.{◌∙◌, sym, arith, length}
 use Rattle.std.proofs.lemmas.List.{take_all, length-drop}
 use Rattle.system_tables.proofs.TextLaws.{front_is}
 use Rattle.system_tables.proofs.records.without_front.Goals as goal

@@ -1,4 +1,4 @@
-use Rattle.std.proofs.Common.{◌∙◌, sym, arith, length, drop}
+use Rattle.std.proofs.Common.{◌∙◌, sym, arith}
 use Rattle.std.proofs.lemmas.List.{take_all, length-drop}
 use Rattle.system_tables.proofs.TextLaws.{strip_marked}
 use Rattle.system_tables.proofs.records.without_mark.Goals as goal

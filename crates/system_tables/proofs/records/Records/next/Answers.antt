@@ -1,9 +1,9 @@
-use Rattle.std.proofs.Common.{◌≡◌, Bool, true, false, not, Some, List, [], ◌∷◌, ℕ, refl, sym, ap, ◌∙◌, subst, inl, map, if◌then◌else◌}
+use Rattle.std.proofs.Common.{◌≡◌, Bool, true, false, not, Some, List, [], ◌∷◌, ℕ, refl, sym, ap, ◌∙◌, inl, map, if◌then◌else◌}
 use Rattle.std.proofs.lemmas.Bool.{false≢true}
 use Rattle.csv.specs.Records.{fields_of}
 use Rattle.csv.specs.Reading.{ReadRecord, reader_state, source_of}
 use Rattle.system_tables.specs.Records.{RecordsLeft, without_spaces}
-use Rattle.system_tables.specs.Reader.{IsOpen, all_from, left_of}
+use Rattle.system_tables.specs.Reader.{IsOpen}
 use Rattle.system_tables.proofs.RecordLaws.{IsFound, read-found, read-none}
 use Rattle.system_tables.proofs.records.Records.next.Goals as goal
 

@@ -1,14 +1,7 @@
-use Rattle.std.proofs.Common.{◌≡◌, ℕ, ◌+◌, ◌<◌, ◌≤◌, List, [], ◌∷◌, ◌++◌, length, ap, sym, ◌∙◌, refl, arith}
-use Rattle.std.proofs.lemmas.List.{length_push}
-use Rattle.std.proofs.lemmas.List.Sums.{sum_by_push}
-use Rattle.ra_base.specs.declared.limits.TheConstants.{MOST_ZONES, MOST_UNITS, MOST_INTERFACES, MOST_LINES, MOST_STORAGES, MOST_POOLED_MW}
-use Rattle.system_model.specs.declared.components.Unit.{Unit as UnitPart}
-use Rattle.system_model.specs.declared.components.Interface.{Interface}
-use Rattle.system_model.specs.declared.components.Line.{Line}
-use Rattle.system_model.specs.declared.components.Storage.{Storage}
+use Rattle.std.proofs.Common.{◌≡◌, ℕ, List, [], length, ap, sym, ◌∙◌, arith}
 use Rattle.system_model.specs.Components.{pooled_capacity, pooled_charge, pooled_discharge}
-use Rattle.system_model.specs.System.{SystemParts, no_parts, zone_count, unit_count, interface_count, line_count, storage_count}
-use Rattle.system_tables.specs.SoFar.{behind_zones, behind_units, behind_interfaces, behind_lines, AreZones, AreZonesSoFar, AreUnitsSoFar, AreInterfaces, AreInterfacesSoFar, AreLinesSoFar, AreStoragesSoFar, AreUnitsRead, AreLinesRead, AreStoragesRead}
+use Rattle.system_model.specs.System.{SystemParts, no_parts, zone_count}
+use Rattle.system_tables.specs.SoFar.{behind_zones, behind_units, behind_interfaces, behind_lines, AreZones, AreZonesSoFar, AreUnitsSoFar, AreInterfacesSoFar, AreLinesSoFar, AreStoragesSoFar, AreUnitsRead, AreLinesRead, AreStoragesRead}
 
 abbrev Names : Type 0
 Names = List (List ℕ)
