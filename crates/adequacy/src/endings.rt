@@ -65,7 +65,8 @@ pub(crate) fn report<E: Sink>(alloc: Global, failure: Failure, err: &mut E) -> S
 
 /// Writes why there are no words to read, in one write, and gives the status.
 pub fn report_unread<E: Sink>(reason: Unread, err: &mut E) -> Status
-    ensures { Tells (Err (unread_failure reason)) result (E.held err.old) (E.held err.new) (E.faults err.old) (E.faults err.new) }
+    ensures { Tells (Err (unread_failure reason)) result (E.held err.old) (E.held err.new)
+        (E.faults err.old) (E.faults err.new) }
 {
     match reason {
         Unread::NotText => tell(err, b"words: usage\n", Status::Words),

@@ -1,6 +1,7 @@
 //! The texts that the program writes: totals, the size of a system, faults in tables.
 ghost use Rattle.std.specs.Prelude.{◌≡◌, ◌<◌, ◌≤◌, ◌^◌, ◌++◌, [], ◌∷◌, length, map, slice_index_or, codes, OnOk, OnErr, if◌then◌else◌};
 ghost use Rattle.std.specs.List.{flat_map, range_with_len};
+ghost use Rattle.ra_base.specs.declared.limits.TheConstants.{MOST_SAMPLES};
 ghost use Rattle.decimal_text.specs.DecimalText.{whole_text};
 ghost use Rattle.system_model.specs.System.{zone_count};
 ghost use Rattle.system_model.specs.System.{pooled_capacity};
@@ -40,9 +41,9 @@ const STORAGE_COLUMNS: [&[u8]; 11] = [
     b"repair",
 ];
 
-/// Appends the line that tells how large a system is: how many zones, units, interfaces, lines, storages and hours
-/// it has, its pooled unit capacity in MW, and the greatest need in MW with its first hour. Without memory the text
-/// stays as it was.
+/// Appends the line that tells how large a system is: how many zones, units, interfaces, lines, storages and
+/// hours it has, its pooled unit capacity in MW, and the greatest need in MW with its first hour. Without
+/// memory the text stays as it was.
 pub fn put_check(
     out: &mut Text,
     system: &System,
@@ -191,7 +192,8 @@ fn put_number_fault(out: &mut Text, fault: NumberFault) -> Result<(), OutOfMemor
 
 // A value past its bound.
 fn put_range(out: &mut Text, value: u64, limit: u64) -> Result<(), OutOfMemory>
-    ensures { OnOk result (out.new ≡ out.old ++ whole_text value ++ codes " is out of range, limit " ++ whole_text limit) }
+    ensures { OnOk result (out.new ≡ out.old
+        ++ whole_text value ++ codes " is out of range, limit " ++ whole_text limit) }
 {
     put_whole(out, u128::from(value))?;
     put_counted(out, b" is out of range, limit ", limit)
@@ -199,7 +201,8 @@ fn put_range(out: &mut Text, value: u64, limit: u64) -> Result<(), OutOfMemory>
 
 // An hour that isn't the next one.
 fn put_hour_order(out: &mut Text, found: u64, wanted: u64) -> Result<(), OutOfMemory>
-    ensures { OnOk result (out.new ≡ out.old ++ codes "hour " ++ whole_text found ++ codes ", wanted " ++ whole_text wanted) }
+    ensures { OnOk result (out.new ≡ out.old
+        ++ codes "hour " ++ whole_text found ++ codes ", wanted " ++ whole_text wanted) }
 {
     put_counted(out, b"hour ", found)?;
     put_counted(out, b", wanted ", wanted)
@@ -283,7 +286,8 @@ fn put_sum_lines(out: &mut Text, system: &System, totals: &Totals) -> Result<(),
 fn put_zones(out: &mut Text, system: &System, totals: &Totals) -> Result<(), OutOfMemory>
     requires zones { length totals.now.zones ≡ zone_count system.now }
     requires some { 0 < totals.now.samples }
-    ensures { OnOk result (out.new ≡ out.old ++ flat_map (zone_line system.now.zone_names totals.now) (range_with_len 0 (zone_count system.now))) }
+    ensures { OnOk result (out.new ≡ out.old
+        ++ flat_map (zone_line system.now.zone_names totals.now) (range_with_len 0 (zone_count system.now))) }
 {
     for zone in 0..system.zones() {
         put_zone(out, system, totals, zone)?;
@@ -328,7 +332,8 @@ fn put_cut(out: &mut Text, system: &System, row: CutRow) -> Result<(), OutOfMemo
 
 // The names of the zones of a mask, joined by `+`.
 fn put_zone_set(out: &mut Text, system: &System, mask: u32) -> Result<(), OutOfMemory>
-    ensures { OnOk result (out.new ≡ out.old ++ zones_text system.now.zone_names (zones_in mask (zone_count system.now))) }
+    ensures { OnOk result (out.new ≡ out.old
+        ++ zones_text system.now.zone_names (zones_in mask (zone_count system.now))) }
 {
     let mut first = true;
     for zone in 0..system.zones() {
@@ -370,7 +375,7 @@ fn shown(byte: u8) -> u8
 #[tactic(auto, unfolding(crate::specs::TotalsText::sums_text))]
 fn put_sums(out: &mut Text, sums: Sums, samples: u32) -> Result<(), OutOfMemory>
     requires some { 0 < samples }
-    requires few { samples ≤ 1000000 }
+    requires few { samples ≤ MOST_SAMPLES }
     requires sums { AreSums sums samples }
     ensures { OnOk result (out.new ≡ out.old ++ sums_text sums samples) }
 {

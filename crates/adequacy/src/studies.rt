@@ -38,7 +38,8 @@ fn study_totals(
 ) -> Result<Totals, OutOfMemory>
     requires one_zone { zone_count system.now ≡ 1 }
     requires samples { samples ≤ MOST_SAMPLES }
-    ensures { IfOk result (λ totals. totals ≡ totals_of (zone_count system.now) (first_runs system.now seed samples)) }
+    ensures { IfOk result (λ totals.
+        totals ≡ totals_of (zone_count system.now) (first_runs system.now seed samples)) }
 {
     let mut runner = Runner::new(alloc, system, seed)?;
     let mut totals = Totals::new(alloc, system.zones())?;

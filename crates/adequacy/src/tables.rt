@@ -43,7 +43,8 @@ pub enum FolderError {
     OutOfMemory,
 }
 
-/// The system of a folder, from its tables in their order. Reading ends at the first table that gives a reason to.
+/// The system of a folder, from its tables in their order. Reading ends at the first table that gives a reason
+/// to.
 pub(crate) fn read_folder<S: Shelf>(
     alloc: Global,
     folder: &str,
@@ -78,8 +79,8 @@ fn empty_tables() -> TableBytes
     }
 }
 
-// The tables of a folder in this order, on top of those that are there. Reading ends at the first that gives a
-// reason to.
+// The tables of a folder in this order, on top of those that are there. Reading ends at the first that gives
+// a reason to.
 fn read_tables<S: Shelf>(
     alloc: Global,
     folder: &str,

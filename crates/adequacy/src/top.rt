@@ -23,10 +23,10 @@ use system_model::System;
 
 /// Runs the program on the words of its command line, without the program's own name.
 ///
-/// The words name a command, a folder and the command's options: `check FOLDER` tells how large the folder's system
-/// is, `table FOLDER` gives its capacity outage table, `index FOLDER` its LOLE and EUE, and
-/// `study FOLDER --samples N --seed S` simulates so many samples of it. The answer goes to `out`; where there is none,
-/// one line on `err` says why.
+/// The words name a command, a folder and the command's options: `check FOLDER` tells how large the folder's
+/// system is, `table FOLDER` gives its capacity outage table, `index FOLDER` its LOLE and EUE, and
+/// `study FOLDER --samples N --seed S` simulates so many samples of it. The answer goes to `out`; where there is
+/// none, one line on `err` says why.
 pub fn adequacy<S: Shelf, O: Sink, E: Sink>(
     alloc: Global,
     words: &[String],
@@ -37,11 +37,13 @@ pub fn adequacy<S: Shelf, O: Sink, E: Sink>(
     // Words that spell no line, and only those, end so, and nothing is touched but `err`.
     ensures words { (result ≡ Status.Words) ↔ (line_of (map string_bytes words.now) ≡ None) }
     ensures untouched { result ≡ Status.Words → (shelf.new ≡ shelf.old) × (out.new ≡ out.old)
-        × Tells (Err Failure.Words) result (E.held err.old) (E.held err.new) (E.faults err.old) (E.faults err.new) }
+        × Tells (Err Failure.Words) result (E.held err.old) (E.held err.new)
+        (E.faults err.old) (E.faults err.new) }
 
     // No run changes what the shelf holds, and a fault is answered exactly where one was counted.
     ensures contents { S.contents shelf.new ≡ S.contents shelf.old }
-    ensures read_fault { Counts (says_read_fault result) (S.counts shelf.old).faults (S.counts shelf.new).faults }
+    ensures read_fault { Counts (says_read_fault result)
+        (S.counts shelf.old).faults (S.counts shelf.new).faults }
     ensures write_fault { Counts (says_write_fault result) (O.faults out.old) (O.faults out.new) }
     ensures unwritten { says_written result ≡ false → out.new ≡ out.old }
     ensures done { result ≡ Status.Done → err.new ≡ err.old }
@@ -58,11 +60,12 @@ pub fn adequacy<S: Shelf, O: Sink, E: Sink>(
         → RunsOn stored line result (O.held out.old) (O.held out.new)
         (E.held err.old) (E.held err.new) (E.faults err.old) (E.faults err.new) }
 
-    // So stored tables that spell a system are answered where no fault was counted, unless memory wasn't found;
+    // So stored tables that spell a system are answered where no fault was counted, or memory wasn't found;
     ensures answered { (line : LineWords) (stored : Tables) (system : SystemParts) →
         line_of (map string_bytes words.now) ≡ Some line → S.contents shelf.old ≡ Some stored →
         FolderSpells stored line.folder system → is_built line.command system ≡ true →
-        ¬ Rose (S.counts shelf.old).faults (S.counts shelf.new).faults → ¬ Rose (O.faults out.old) (O.faults out.new) →
+        ¬ Rose (S.counts shelf.old).faults (S.counts shelf.new).faults →
+        ¬ Rose (O.faults out.old) (O.faults out.new) →
         ((result ≡ Status.Done) × Gained (O.held out.old) (O.held out.new) (answer_of line.command system))
         ⊎ (result ≡ Status.OutOfMemory) }
 
@@ -71,7 +74,8 @@ pub fn adequacy<S: Shelf, O: Sink, E: Sink>(
         line_of (map string_bytes words.now) ≡ Some line → S.contents shelf.old ≡ Some stored →
         IsRefused stored line.folder refusal →
         ¬ Rose (S.counts shelf.old).faults (S.counts shelf.new).faults →
-        Tells (Err (Failure.Refused refusal)) result (E.held err.old) (E.held err.new) (E.faults err.old) (E.faults err.new)
+        Tells (Err (Failure.Refused refusal)) result (E.held err.old) (E.held err.new)
+        (E.faults err.old) (E.faults err.new)
         ⊎ (result ≡ Status.OutOfMemory) }
 {
     match read_line(words) {
@@ -90,13 +94,16 @@ fn run_line<S: Shelf, O: Sink, E: Sink>(
 ) -> Status
     requires range { IsInRange line.command }
     ensures contents { S.contents shelf.new ≡ S.contents shelf.old }
-    ensures read_fault { Counts (says_read_fault result) (S.counts shelf.old).faults (S.counts shelf.new).faults }
+    ensures read_fault { Counts (says_read_fault result)
+        (S.counts shelf.old).faults (S.counts shelf.new).faults }
     ensures write_fault { Counts (says_write_fault result) (O.faults out.old) (O.faults out.new) }
     ensures unwritten { says_written result ≡ false → out.new ≡ out.old }
     ensures done { result ≡ Status.Done → err.new ≡ err.old }
-    ensures run { HasRun (S.contents shelf.old) (record { folder = line.entry.folder.now; command = line.entry.command })
+    ensures run { HasRun (S.contents shelf.old)
+        (record { folder = line.entry.folder.now; command = line.entry.command })
         result (S.reads shelf.old) (S.reads shelf.new) (S.counts shelf.old) (S.counts shelf.new)
-        (O.held out.old) (O.held out.new) (E.held err.old) (E.held err.new) (E.faults err.old) (E.faults err.new) }
+        (O.held out.old) (O.held out.new) (E.held err.old) (E.held err.new)
+        (E.faults err.old) (E.faults err.new) }
 {
     match run(alloc, line, shelf, out) {
         Ok(()) => Status::Done,
@@ -117,7 +124,8 @@ fn run<S: Shelf, O: Sink>(
         × HasRead (S.contents shelf.old) line.entry.folder.now no_tables table_order tables
         (S.reads shelf.old) (S.reads shelf.new) (S.counts shelf.old) (S.counts shelf.new)
         × Ends line.entry.command tables result (O.held out.old) (O.held out.new) }
-    ensures read_faults { Counts (is_shelf_failure result) (S.counts shelf.old).faults (S.counts shelf.new).faults }
+    ensures read_faults { Counts (is_shelf_failure result)
+        (S.counts shelf.old).faults (S.counts shelf.new).faults }
     ensures write_faults { Counts (is_sink_failure result) (O.faults out.old) (O.faults out.new) }
     ensures unwritten { may_have_written result ≡ false → out.new ≡ out.old }
 {
