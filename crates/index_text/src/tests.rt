@@ -1,11 +1,15 @@
-ghost use Rattle.std.specs.Prelude.{◌≡◌, IfOk};
+ghost use Rattle.std.specs.Prelude.{◌≡◌, ◌<◌, IfOk};
 ghost use Rattle.system_model.specs.System.{zone_count};
+ghost use Rattle.analytic_index.specs.Pool.{IsNewUnit};
 
-use crate::{put_index, put_table};
-use analytic_index::Analysis;
+use crate::{put_bracket, put_index, put_table};
+use analytic_index::{Analysis, NewUnit};
+use capacity_credit::{Kind, Measure, Steps, credit};
 use ra_base::{Amounts, OutOfMemory, Text};
 use std::alloc::Global;
+use std::marker::Brand;
 use std::process::Abort;
+use std::sync::ledger::{Blank, Ledger};
 use system_model::{Draft, Rates, System, Unit};
 
 // A system with one zone: units as capacity, failure and repair rate, hours as load and variable
@@ -95,5 +99,85 @@ fn texts_are_written_line_by_line(rt: HostRuntime) {
             Ok(text) => assert!(rt; text.bytes() == want.as_bytes(), "{want}"),
             Err(OutOfMemory) => panic!(rt; "out of memory"),
         }
+    }
+}
+
+// The text of the firm capacity of 50 MW more, by unserved energy.
+fn credit_text<L: Ledger>(
+    alloc: Global,
+    blank: Blank,
+    system: &System,
+    unit: NewUnit,
+) -> Result<Text, OutOfMemory>
+    requires name { blank.name ≡ L.name }
+    requires parts { blank.parts ≡ L.parts }
+    requires some { 0 < blank.parts }
+    requires unit { IsNewUnit unit }
+{
+    let mut steps = Steps::<L>::open(blank);
+    let bracket = credit(
+        alloc,
+        system,
+        &unit,
+        Kind::Efc,
+        Measure::Eue,
+        100,
+        &mut steps,
+    )?;
+    let mut text = Text::new(alloc);
+    put_bracket(&mut text, Kind::Efc, Measure::Eue, &bracket)?;
+    Ok(text)
+}
+
+const QUARTER_OUT: &str = "\
+credit efc eue
+target low 0.849999999999 high 0.850000000001
+low 37 at low 0.859999999999 high 0.860000000001
+high 38 at low 0.839999999999 high 0.840000000001
+";
+
+const NEVER_OUT: &str = "\
+credit efc eue
+target low 0.599999999999 high 0.600000000001
+low 49 at low 0.619999999999 high 0.620000000001
+high 51 at low 0.579999999999 high 0.580000000001
+";
+
+const ALWAYS_OUT: &str = "\
+credit efc eue
+target low 1.599999999999 high 1.600000000001
+low none
+high 1 at low 1.579999999999 high 1.580000000001
+";
+
+// A unit of 100 MW that is out a fiftieth of the time, under a load of 80 MW. Exactly, 50 MW more leave
+// 0.02 * (30 + 50 * chance) MW unserved, and needs less by c leave 0.02 * (80 - c).
+#[test]
+fn a_bracket_is_written_line_by_line(rt: HostRuntime) {
+    let cases = [
+        (250_000_000, 750_000_000, QUARTER_OUT),
+        (0, 1_000_000_000, NEVER_OUT),
+        (1_000_000_000, 0, ALWAYS_OUT),
+    ];
+    match one_zone(
+        &rt,
+        rt.alloc(),
+        &[(100, 20_000_000, 980_000_000)],
+        &[(80, 0)],
+    ) {
+        Ok(system) => {
+            for (f, r, want) in cases {
+                assert!(rt; f <= 1_000_000_000 && r <= 1_000_000_000 && f + r > 0);
+                let unit = NewUnit {
+                    capacity: 50,
+                    rates: Rates { f, r },
+                };
+                match credit_text::<Brand>(rt.alloc(), Blank::new(1), &system, unit) {
+                    Ok(text) => assert!(rt; text.bytes() == want.as_bytes(), "{want}"),
+                    Err(OutOfMemory) => panic!(rt; "out of memory"),
+                }
+            }
+        }
+        Err(OutOfMemory) => panic!(rt; "out of memory"),
     }
 }
