@@ -7,3 +7,4 @@ pub mod TurnLaws
 pub mod SoFar
 pub mod HourLaws
 pub mod OutcomeLaws
+pub mod DigitLaws

@@ -10,8 +10,9 @@ ghost use Rattle.system_tables.specs.Outcome.{Gives, GivesNow};
 use crate::columns::FoundColumn;
 use crate::faults::{Cause, Column, Place, ReadError, TableFault, refuse};
 use crate::names::Names;
+use crate::numbers::whole_number;
 use crate::records::Records;
-use decimal_text::{NumberFault, read_billionths, read_whole};
+use decimal_text::{NumberFault, read_billionths};
 use ra_base::limits::{BILLION, MOST_NAME_BYTES, MOST_POOLED_MW, THOUSAND};
 use system_model::Rates;
 
@@ -84,7 +85,7 @@ pub(crate) fn whole(
     ensures exact { result ≡ whole_in place found low most row.now.row }
     ensures within { IfOk result (AreInRange low most) }
 {
-    let value = number(place, found.column, read_whole(row.field(found.at)))?;
+    let value = number(place, found.column, whole_number(row.field(found.at)))?;
     ranged(place, found.column, low, most, value)
 }
 
@@ -94,7 +95,7 @@ pub(crate) fn value(place: Place, found: FoundColumn, row: &Records<'_>) -> Resu
     ensures exact { result ≡ value_in place found row.now.row }
     ensures small { IfOk result (λ value. value ≤ 10 ^ 18) }
 {
-    number(place, found.column, read_whole(row.field(found.at)))
+    number(place, found.column, whole_number(row.field(found.at)))
 }
 
 /// That what the rows have together so far isn't past the limit.

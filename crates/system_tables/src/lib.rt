@@ -9,6 +9,7 @@ mod hours;
 mod interfaces;
 mod lines;
 mod names;
+mod numbers;
 mod records;
 mod storages;
 mod tables;
