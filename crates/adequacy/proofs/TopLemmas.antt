@@ -1,6 +1,6 @@
 -- What the top call says of a line's run where the shelf tells its contents.
 use Rattle.std.proofs.Common.{◌≡◌, ℕ, List, Option, Some, Bool, true, false, Result, Ok, Err, refl, sym, ap, ◌∙◌, subst, inl, inr, ◌⊎◌}
-use Rattle.ra_base.specs.Causes.{Counts, Rose, Gained}
+use Rattle.ra_base.specs.Causes.{Counts, Rose}
 use Rattle.ra_base.specs.Outside.{Tables}
 use Rattle.ra_base.specs.Reading.{Reading}
 use Rattle.ra_base.specs.declared.shelf_counts.ShelfCounts.{ShelfCounts}
@@ -15,9 +15,9 @@ use Rattle.adequacy.specs.declared.tables.FolderError.TheVariants as folder
 use Rattle.adequacy.specs.declared.tables.Refusal.{Refusal}
 use Rattle.adequacy.specs.declared.words.Command.{Command}
 use Rattle.adequacy.specs.Words.{Line as LineWords}
-use Rattle.adequacy.specs.Commands.{answer_of, is_built}
+use Rattle.adequacy.specs.Commands.{is_built}
 use Rattle.adequacy.specs.Folder.{no_tables, table_order, stored_tables, stored_from, folder_outcome, FolderSpells, IsRefused}
-use Rattle.adequacy.specs.Endings.{Ending, Ends, Tells, HasRun, RunsOn, says_read_fault, says_write_fault}
+use Rattle.adequacy.specs.Endings.{Ending, AnswerGained, Ends, Tells, HasRun, RunsOn, says_read_fault, says_write_fault}
 use Rattle.adequacy.proofs.StoredLemmas.{IsUnless, told_outcome}
 
 -- where a read failed or memory wasn't found, a run ends so
@@ -73,12 +73,12 @@ spelled_ended : (command : Command) (tables : Result TableBytes FolderError) (sy
     → folder_outcome tables ≡ Ok system → is_built command system ≡ true
     → (ends ≡ status.ReadFault → ⊥) → (ends ≡ status.WriteFault → ⊥)
     → (ending ≡ Err ReadFault) ⊎ Ends command tables ending held held' → Tells ending ends said said' f f'
-    → ((ends ≡ status.Done) × Gained held held' (answer_of command system)) ⊎ (ends ≡ status.OutOfMemory)
+    → ((ends ≡ status.Done) × AnswerGained command system held held') ⊎ (ends ≡ status.OutOfMemory)
 spelled_ended command tables system ending ends held held' said said' f f' spells built no_read no_write (inl fault) told =
     absurd (no_read ((rw fault at told).0))
 spelled_ended command tables system (Ok done) ends held held' said said' f f' spells built no_read no_write (inr (other, is, gained)) told =
     let same : other ≡ system = cc in
-    inl (told.0, subst (λ (s : SystemParts). Gained held held' (answer_of command s)) same gained)
+    inl (told.0, subst (λ (s : SystemParts). AnswerGained command s held held') same gained)
 spelled_ended command tables system (Err Words) ends held held' said said' f f' spells built no_read no_write (inr ended) told = absurd ended
 spelled_ended command tables system (Err (Refused refusal)) ends held held' said said' f f' spells built no_read no_write (inr (is, same)) told = absurd (cc)
 spelled_ended command tables system (Err NotBuilt) ends held held' said said' f f' spells built no_read no_write (inr (other, is, unbuilt)) told =
@@ -110,7 +110,7 @@ refused_ended command tables refusal (Err OutOfMemory) ends held held' said said
 pub answered_by : (stored : Tables) (line : LineWords) (system : SystemParts) (ends : Status) (held held' said said' : Option (List ℕ)) (f f' r r' w w' : ℕ)
     → RunsOn stored line ends held held' said said' f f' → FolderSpells stored line.folder system → is_built line.command system ≡ true
     → Counts (says_read_fault ends) r r' → Counts (says_write_fault ends) w w' → (Rose r r' → ⊥) → (Rose w w' → ⊥)
-    → ((ends ≡ status.Done) × Gained held held' (answer_of line.command system)) ⊎ (ends ≡ status.OutOfMemory)
+    → ((ends ≡ status.Done) × AnswerGained line.command system held held') ⊎ (ends ≡ status.OutOfMemory)
 answered_by stored line system ends held held' said said' f f' r r' w w' run spells built read write no_read no_write =
     spelled_ended line.command (stored_tables stored line.folder) system run.ending ends held held' said said' f f' spells built
     (not_read_fault ends r r' read no_read) (not_write_fault ends w w' write no_write) run.ended run.told

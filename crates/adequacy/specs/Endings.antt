@@ -8,7 +8,7 @@ use Rattle.ra_base.specs.declared.status.Status.{Status}
 use Rattle.ra_base.specs.declared.status.Status.TheVariants as status
 use Rattle.ra_base.specs.declared.table.TableBytes.{TableBytes}
 use Rattle.system_model.specs.System.{SystemParts}
-use Rattle.adequacy.specs.Commands.{answer_of, is_built}
+use Rattle.adequacy.specs.Commands.{IsAnswer, is_built}
 use Rattle.adequacy.specs.FaultText.{table_text, fault_line}
 use Rattle.adequacy.specs.Folder.{folder_outcome, no_tables, table_order, HasRead, stored_tables}
 use Rattle.adequacy.specs.Words.{Line as LineWords}
@@ -82,11 +82,16 @@ Reports (Refused refusal) ends before now faults faults' =
     Tells (Err (Refused refusal)) ends before now faults faults' ⊎ Tells (Err OutOfMemory) ends before now faults faults'
 Reports failure ends before now faults faults' = Tells (Err failure) ends before now faults faults'
 
+-- `out` has gained what answers a command for a system
+abbrev pub AnswerGained : Command → SystemParts → Option (List ℕ) → Option (List ℕ) → Type 0
+AnswerGained command system before now = (text : List ℕ) × IsAnswer command system text × Gained before now text
+
 -- how a command ends for a system, and what `out` has gained: its answer, a first part of that where the write
 -- failed, or nothing
 abbrev pub Answers : Command → SystemParts → Ending → Option (List ℕ) → Option (List ℕ) → Type 0
-Answers command system (Ok done) before now = Gained before now (answer_of command system)
-Answers command system (Err WriteFault) before now = GainedPart before now (answer_of command system)
+Answers command system (Ok done) before now = AnswerGained command system before now
+Answers command system (Err WriteFault) before now =
+    (text : List ℕ) × IsAnswer command system text × GainedPart before now text
 Answers command system (Err NotBuilt) before now = (is_built command system ≡ false) × (now ≡ before)
 Answers command system (Err OutOfMemory) before now = now ≡ before
 Answers command system (Err Words) before now = ⊥

@@ -1,12 +1,12 @@
 //! The top call: from the words of the command line to the bytes of the answer.
 ghost use Rattle.std.specs.Prelude.{◌≡◌, ◌↔◌, ◌⊎◌, Some, None, Err, Result, map, true, false};
 ghost use Rattle.std.specs.String.{string_bytes};
-ghost use Rattle.ra_base.specs.Causes.{Counts, Rose, Gained};
+ghost use Rattle.ra_base.specs.Causes.{Counts, Rose};
 ghost use Rattle.ra_base.specs.Outside.{Tables};
 ghost use Rattle.ra_base.specs.declared.table.TableBytes.{TableBytes};
 ghost use Rattle.system_model.specs.System.{SystemParts};
-ghost use Rattle.adequacy.specs.Commands.{answer_of, is_built, IsInRange};
-ghost use Rattle.adequacy.specs.Endings.{Answers, Ends, Tells, HasRun, RunsOn, is_shelf_failure, is_sink_failure, may_have_written, says_read_fault, says_write_fault, says_written};
+ghost use Rattle.adequacy.specs.Commands.{is_built, IsInRange};
+ghost use Rattle.adequacy.specs.Endings.{Answers, AnswerGained, Ends, Tells, HasRun, RunsOn, is_shelf_failure, is_sink_failure, may_have_written, says_read_fault, says_write_fault, says_written};
 ghost use Rattle.adequacy.specs.Folder.{no_tables, table_order, HasRead, FolderSpells, IsRefused};
 ghost use Rattle.adequacy.specs.Words.{Line as LineWords, line_of};
 ghost use Rattle.adequacy.specs.declared.endings.Failure.{Failure};
@@ -24,9 +24,10 @@ use system_model::System;
 /// Runs the program on the words of its command line, without the program's own name.
 ///
 /// The words name a command, a folder and the command's options: `check FOLDER` tells how large the folder's
-/// system is, `table FOLDER` gives its capacity outage table, `index FOLDER` its LOLE and EUE, and
-/// `study FOLDER --samples N --seed S` simulates so many samples of it. The answer goes to `out`; where there is
-/// none, one line on `err` says why.
+/// system is, `table FOLDER` gives its capacity outage table, `index FOLDER` its LOLE and EUE,
+/// `credit FOLDER --kind K --measure M ..` brackets what a new unit is worth, and
+/// `study FOLDER --samples N --seed S` simulates so many samples. The answer goes to `out`; where there is none,
+/// one line on `err` says why.
 pub fn adequacy<S: Shelf, O: Sink, E: Sink>(
     alloc: Global,
     words: &[String],
@@ -66,7 +67,8 @@ pub fn adequacy<S: Shelf, O: Sink, E: Sink>(
         FolderSpells stored line.folder system → is_built line.command system ≡ true →
         ¬ Rose (S.counts shelf.old).faults (S.counts shelf.new).faults →
         ¬ Rose (O.faults out.old) (O.faults out.new) →
-        ((result ≡ Status.Done) × Gained (O.held out.old) (O.held out.new) (answer_of line.command system))
+        ((result ≡ Status.Done)
+        × AnswerGained line.command system (O.held out.old) (O.held out.new))
         ⊎ (result ≡ Status.OutOfMemory) }
 
     // and stored tables that are refused are refused for that reason, which `err` has then gained.

@@ -3,11 +3,16 @@ ghost use Rattle.std.specs.Prelude.{◌≡◌, ℕ, ◌≤◌, ◌<◌, map, IfS
 ghost use Rattle.std.specs.Option.{option_map};
 ghost use Rattle.std.specs.String.{string_bytes};
 ghost use Rattle.adequacy.specs.Commands.{IsInRange};
-ghost use Rattle.adequacy.specs.Words.{line_of, command_of, study_of, seed_of, within};
-ghost use Rattle.decimal_text.specs.Reading.{whole_of};
+ghost use Rattle.analytic_index.specs.Pool.{IsNewUnit};
+ghost use Rattle.adequacy.specs.Words.{line_of, command_of, study_of, seed_of, credit_of, kind_of, measure_of, terms_of, last_terms_of, least_repair, within};
+ghost use Rattle.decimal_text.specs.Reading.{whole_of, billionths_of};
+ghost use Rattle.ra_base.specs.declared.limits.TheConstants.{BILLION, MOST_POOLED_MW};
 
-use decimal_text::read_whole;
-use ra_base::limits::MOST_SAMPLES;
+use analytic_index::NewUnit;
+use capacity_credit::{Kind, Measure};
+use decimal_text::{read_billionths, read_whole};
+use ra_base::limits::{BILLION, MOST_POOLED_MW, MOST_SAMPLES};
+use system_model::Rates;
 
 /// The greatest seed, and the greatest value of a numeral.
 pub const MOST_SEED: u64 = 1_000_000_000_000_000_000;
@@ -24,8 +29,18 @@ pub enum Command {
     Table,
     /// To give its expected hours of lost load and its expected unserved energy.
     Index,
+    /// To bracket what a new unit is worth, among the candidates up to some MW.
+    Credit {
+        kind: Kind,
+        measure: Measure,
+        unit: NewUnit,
+        most: u32,
+    },
     /// To simulate this number of samples, 1 to 1,000,000, under a seed of at most 10^18.
-    Study { samples: u32, seed: u64 },
+    Study {
+        samples: u32,
+        seed: u64,
+    },
 }
 
 /// What the words ask for.
@@ -63,6 +78,7 @@ fn read_command(name: &str, options: &[String]) -> Option<Command>
         "check" if options.is_empty() => Some(Command::Check),
         "table" if options.is_empty() => Some(Command::Table),
         "index" if options.is_empty() => Some(Command::Index),
+        "credit" => read_credit(options),
         "study" => read_study(options),
         _ => None,
     }
@@ -85,6 +101,119 @@ fn read_study(options: &[String]) -> Option<Command>
         samples: samples as u32,
         seed,
     })
+}
+
+// The question and the terms of a credit.
+fn read_credit(options: &[String]) -> Option<Command>
+    ensures command { result ≡ credit_of (map string_bytes options.now) }
+    ensures range { IfSome result IsInRange }
+{
+    let [kind_name, kind, measure_name, measure, rest @ ..] = options else {
+        return None;
+    };
+    if kind_name.as_str() != "--kind" || measure_name.as_str() != "--measure" {
+        return None;
+    }
+    let kind = read_kind(kind.as_str())?;
+    let measure = read_measure(measure.as_str())?;
+    let terms = read_terms(rest)?;
+    Some(Command::Credit {
+        kind,
+        measure,
+        unit: terms.unit,
+        most: terms.most,
+    })
+}
+
+// A new unit, and the greatest candidate for what it is worth, in MW.
+#[derive(Clone, Copy)]
+struct Terms {
+    unit: NewUnit,
+    most: u32,
+}
+
+fn read_terms(options: &[String]) -> Option<Terms>
+    ensures terms { result ≡ terms_of (map string_bytes options.now) }
+    ensures range { IfSome result (λ terms. IsNewUnit terms.unit × (terms.most ≤ MOST_POOLED_MW)) }
+{
+    let [capacity_name, capacity, failure_name, failure, rest @ ..] = options else {
+        return None;
+    };
+    if capacity_name.as_str() != "--capacity" || failure_name.as_str() != "--failure" {
+        return None;
+    }
+    let capacity = read_within(capacity.as_str(), 0, u64::from(MOST_POOLED_MW))?;
+    let failure = read_probability(failure.as_str(), 0)?;
+    let last = read_last_terms(failure, rest)?;
+    let rates = Rates {
+        f: failure as u32,
+        r: last.repair,
+    };
+    Some(Terms {
+        unit: NewUnit {
+            capacity: capacity as u32,
+            rates,
+        },
+        most: last.most,
+    })
+}
+
+// The last terms of a credit: the repair probability in billionths, and the greatest candidate in MW.
+#[derive(Clone, Copy)]
+struct LastTerms {
+    repair: u32,
+    most: u32,
+}
+
+fn read_last_terms(failure: u64, options: &[String]) -> Option<LastTerms>
+    ensures terms { result ≡ last_terms_of failure (map string_bytes options.now) }
+    ensures repair { IfSome result (λ terms. (least_repair failure ≤ terms.repair) × (terms.repair ≤ BILLION)) }
+    ensures most { IfSome result (λ terms. terms.most ≤ MOST_POOLED_MW) }
+{
+    let [repair_name, repair, most_name, most] = options else {
+        return None;
+    };
+    if repair_name.as_str() != "--repair" || most_name.as_str() != "--up-to" {
+        return None;
+    }
+    let least = if failure == 0 { 1 } else { 0 };
+    let repair = read_probability(repair.as_str(), least)?;
+    let most = read_within(most.as_str(), 0, u64::from(MOST_POOLED_MW))?;
+    Some(LastTerms {
+        repair: repair as u32,
+        most: most as u32,
+    })
+}
+
+fn read_kind(word: &str) -> Option<Kind>
+    ensures { result ≡ kind_of word.now }
+{
+    match word {
+        "efc" => Some(Kind::Efc),
+        "elcc" => Some(Kind::Elcc),
+        _ => None,
+    }
+}
+
+fn read_measure(word: &str) -> Option<Measure>
+    ensures { result ≡ measure_of word.now }
+{
+    match word {
+        "lole" => Some(Measure::Lole),
+        "eue" => Some(Measure::Eue),
+        _ => None,
+    }
+}
+
+// A probability in billionths, at least so many.
+fn read_probability(word: &str, least: u64) -> Option<u64>
+    ensures value { result ≡ within least BILLION (billionths_of word.now) }
+    ensures range { IfSome result (λ value. (least ≤ value) × (value ≤ BILLION)) }
+{
+    match read_billionths(word.as_bytes()) {
+        Ok(value) if least <= value && value <= u64::from(BILLION) => Some(value),
+        _ => None,
+    }
 }
 
 // The seed, or its default where there is no such option.
