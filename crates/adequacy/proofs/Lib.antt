@@ -4,3 +4,4 @@ pub mod StoredLemmas
 pub mod StudyLemmas
 pub mod TextLemmas
 pub mod TopLemmas
+pub mod WordsLemmas

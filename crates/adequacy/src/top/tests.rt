@@ -108,8 +108,136 @@ const TWO_ZONES: (TableName, &str) = (TableName::Zones, "name\nA\nB\n");
 
 const TWO_LOADS: (TableName, &str) = (TableName::Load, "hour,A,B\n0,10,10\n");
 
+// Three units that are out a fiftieth of the time, under 8 MW; and one of 100 MW under 80 MW.
+const THREE_UNITS: (TableName, &str) = (
+    TableName::Units,
+    "name,zone,capacity,failure,repair\nU1,A,3,0.02,0.98\nU2,A,3,0.02,0.98\nU3,A,5,0.02,0.98\n",
+);
+
+const FIFTIETH_OUT: (TableName, &str) = (
+    TableName::Units,
+    "name,zone,capacity,failure,repair\nU1,A,100,0.02,0.98\n",
+);
+
+const EIGHTY_MW: (TableName, &str) = (TableName::Load, "hour,A\n0,80\n");
+
+const OUTAGES: &str = "units 3 total 11
+outage 0 low 1.000000000000 high 1.000000000000
+outage 3 low 0.058807999999 high 0.058808000001
+outage 5 low 0.020391999999 high 0.020392000001
+outage 6 low 0.001183999999 high 0.001184000001
+outage 8 low 0.000791999999 high 0.000792000001
+outage 11 low 0.000007999999 high 0.000008000001
+";
+
+const INDICES: &str = "hours 1 peak 8 hour 0
+lole low 0.020391999999 high 0.020392000001
+eue low 0.043575999999 high 0.043576000001
+hour 0 need 8 lolp low 0.020391999999 high 0.020392000001 unserved low 0.043575999999 high 0.043576000001
+";
+
+// What a unit of 50 MW is worth that is out a quarter of the time, and one that always is.
+const WORTH: &str = "credit efc eue
+target low 0.849999999999 high 0.850000000001
+low 37 at low 0.859999999999 high 0.860000000001
+high 38 at low 0.839999999999 high 0.840000000001
+";
+
+const WORTHLESS: &str = "credit efc eue
+target low 1.599999999999 high 1.600000000001
+low none
+high 1 at low 1.579999999999 high 1.580000000001
+";
+
 // What is known by hand: studies, checks, refused tables and refused words.
-const CASES: [Case; 19] = [
+const CASES: [Case; 25] = [
+    Case {
+        tables: &[ZONE, THREE_UNITS, ONE_HOUR],
+        command: "table",
+        options: &[],
+        status: Status::Done,
+        out: OUTAGES,
+        err: "",
+    },
+    Case {
+        tables: &[ZONE, THREE_UNITS, ONE_HOUR],
+        command: "index",
+        options: &[],
+        status: Status::Done,
+        out: INDICES,
+        err: "",
+    },
+    Case {
+        tables: &[ZONE, FIFTIETH_OUT, EIGHTY_MW],
+        command: "credit",
+        options: &[
+            "--kind",
+            "efc",
+            "--measure",
+            "eue",
+            "--capacity",
+            "50",
+            "--failure",
+            "0.25",
+            "--repair",
+            "0.75",
+            "--up-to",
+            "100",
+        ],
+        status: Status::Done,
+        out: WORTH,
+        err: "",
+    },
+    Case {
+        tables: &[ZONE, FIFTIETH_OUT, EIGHTY_MW],
+        command: "credit",
+        options: &[
+            "--kind",
+            "efc",
+            "--measure",
+            "eue",
+            "--capacity",
+            "50",
+            "--failure",
+            "1",
+            "--repair",
+            "0",
+            "--up-to",
+            "100",
+        ],
+        status: Status::Done,
+        out: WORTHLESS,
+        err: "",
+    },
+    Case {
+        tables: &[ZONE, FIFTIETH_OUT, EIGHTY_MW],
+        command: "credit",
+        options: &[
+            "--kind",
+            "efc",
+            "--measure",
+            "eue",
+            "--capacity",
+            "50",
+            "--failure",
+            "0",
+            "--repair",
+            "0",
+            "--up-to",
+            "100",
+        ],
+        status: Status::Words,
+        out: "",
+        err: "words: usage\n",
+    },
+    Case {
+        tables: &[ZONE, FIFTIETH_OUT, EIGHTY_MW],
+        command: "credit",
+        options: &["--kind", "efc"],
+        status: Status::Words,
+        out: "",
+        err: "words: usage\n",
+    },
     Case {
         tables: &[ZONE, NEVER_OUT, DAY],
         command: "study",
