@@ -125,8 +125,10 @@ impl Flow {
     ) -> u32
         requires link { link < link_count net.now.shape }
         requires can { CanDraw net.now self.old (end_of net.now.shape link forward) seen.old most }
-        ensures draws { Draws net.now self.old self.new steps.now (end_of net.now.shape link forward) seen.old seen.new most result }
-        ensures entered { IsUnbound steps.now → result ≡ 0 → IsEntered net.now self.old true seen.new (end_of net.now.shape link forward) link }
+        ensures draws { let zone = end_of net.now.shape link forward in
+            Draws net.now self.old self.new steps.now zone seen.old seen.new most result }
+        ensures entered { let zone = end_of net.now.shape link forward in
+            IsUnbound steps.now → result ≡ 0 → IsEntered net.now self.old true seen.new zone link }
     {
         let start = start_of(net, link, forward);
         let room = self.room(net, link, forward);
