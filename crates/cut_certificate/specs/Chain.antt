@@ -1,11 +1,20 @@
 -- the chain of sets that proves an outcome the best
-use Rattle.std.specs.Prelude.{◌≡◌, ◌≢◌, ℕ, ℤ, pos, ◌+◌, ◌-◌, ◌<◌, ◌≤◌, ◌^◌, ◌&&◌, IsTrue, List, All, length, true, slice_index, slice_index_or, nat_lt, nat_le, if◌then◌else◌}
+use Rattle.std.specs.Prelude.{◌≡◌, ◌≢◌, ℕ, ℤ, pos, ◌+◌, ◌-◌, ◌<◌, ◌≤◌, ◌^◌, ◌&&◌, IsTrue, List, All, length, replicate, true, slice_index, slice_index_or, nat_lt, nat_le, if◌then◌else◌}
 use Rattle.zone_network.specs.Sums.{inside}
-use Rattle.zone_network.specs.Network.{NetworkParts, into, over_zones, over_devices, zone_of_device, link_count, device_count, load_at, discharge_cap_at, charge_cap_at}
+use Rattle.zone_network.specs.Network.{ShapeParts, NetworkParts, into, over_zones, over_devices, zone_of_device, link_count, device_count, load_at, discharge_cap_at, charge_cap_at}
 use Rattle.zone_network.specs.Dispatch.{Dispatch, IsFeasible, IsBest, not_after, unserved_at}
 use Rattle.zone_network.specs.Cut.{supply_of, discharge_caps_of}
 use Rattle.sample_totals.specs.declared.outcomes.HourOutcome.{HourOutcome}
 use Rattle.cut_certificate.specs.declared.chains.Chain.{Chain}
+
+-- the chain of this shape whose flows, generation and masks are all 0
+abbrev pub empty_chain : ShapeParts → Chain
+empty_chain s =
+    record {
+      flows = replicate (link_count s) (pos 0);
+      generation = replicate s.zones 0;
+      sets = replicate (s.zones + device_count s + device_count s) 0;
+    }
 
 -- each list of the outcome and of the chain has the length that the network's shape gives it
 pub record AreSized (n : NetworkParts) (outcome : HourOutcome) (chain : Chain) : Type 0 where
@@ -123,20 +132,36 @@ pub record ProvesCharge (n : NetworkParts) (served discharge charge : ℕ → �
       → over_zones n.shape served (inside mask) + over_devices n.shape (up_to charge k) (inside mask)
       ≡ supply_of n (inside mask) + over_devices n.shape discharge (inside mask) + into n (inside mask)
 
+-- the same of an outcome
+abbrev pub ProvesUnservedIn : NetworkParts → HourOutcome → ℕ → ℕ → Type 0
+ProvesUnservedIn n outcome z mask = ProvesUnserved n (served_in n outcome) (unserved_in outcome) z mask
+
+abbrev pub ProvesDischargeIn : NetworkParts → HourOutcome → ℕ → ℕ → Type 0
+ProvesDischargeIn n outcome k mask = ProvesDischarge n (served_in n outcome) (discharge_in outcome) k mask
+
+abbrev pub ProvesChargeIn : NetworkParts → HourOutcome → ℕ → ℕ → Type 0
+ProvesChargeIn n outcome k mask = ProvesCharge n (served_in n outcome) (discharge_in outcome) (charge_in outcome) k mask
+
+-- the masks of the first so many zones prove their unserved load, those of the first so many devices their
+-- discharge, and their charge
+abbrev pub ProveUnserved : NetworkParts → HourOutcome → Chain → ℕ → Type 0
+ProveUnserved n outcome chain count = (z : ℕ) → z < count → ProvesUnservedIn n outcome z (zone_set chain z)
+
+abbrev pub ProveDischarge : NetworkParts → HourOutcome → Chain → ℕ → Type 0
+ProveDischarge n outcome chain count = (k : ℕ) → k < count → ProvesDischargeIn n outcome k (discharge_set n chain k)
+
+abbrev pub ProveCharge : NetworkParts → HourOutcome → Chain → ℕ → Type 0
+ProveCharge n outcome chain count = (k : ℕ) → k < count → ProvesChargeIn n outcome k (charge_set n chain k)
+
 -- each mask of the chain proves its component
 pub record IsProvedBy (n : NetworkParts) (outcome : HourOutcome) (chain : Chain) : Type 0 where
-  pub unserved :
-      (z : ℕ)
-      → z < n.shape.zones
-      → ProvesUnserved n (served_in n outcome) (unserved_in outcome) z (zone_set chain z)
-  pub discharge :
-      (k : ℕ)
-      → k < device_count n.shape
-      → ProvesDischarge n (served_in n outcome) (discharge_in outcome) k (discharge_set n chain k)
-  pub charge :
-      (k : ℕ)
-      → k < device_count n.shape
-      → ProvesCharge n (served_in n outcome) (discharge_in outcome) (charge_in outcome) k (charge_set n chain k)
+  pub unserved : ProveUnserved n outcome chain n.shape.zones
+  pub discharge : ProveDischarge n outcome chain (device_count n.shape)
+  pub charge : ProveCharge n outcome chain (device_count n.shape)
+
+-- a chain that is accepted: it shows that the outcome is feasible, and proves it
+abbrev pub IsAccepted : NetworkParts → HourOutcome → Chain → Type 0
+IsAccepted n outcome chain = IsFeasibleBy n outcome chain × IsProvedBy n outcome chain
 
 -- the outcome's lists are those of a dispatch
 pub record AreListsOf (n : NetworkParts) (d : Dispatch) (outcome : HourOutcome) : Type 0 where

@@ -3,7 +3,7 @@
 ghost use Rattle.std.specs.Prelude.{◌≡◌, ◌+◌, ◌<◌, ◌≤◌, ◌==◌, ◌↔◌, IsTrue, length, slice_index, if◌then◌else◌};
 ghost use Rattle.zone_network.specs.Network.{IsNetwork, forward_of, backward_of, inflow, outflow, link_count, device_count, from_zone, to_zone, over_devices};
 ghost use Rattle.cut_certificate.specs.Chain.{Fit, flow_at};
-ghost use Rattle.cut_certificate.specs.Parts.{IsBalanced};
+ghost use Rattle.cut_certificate.specs.Parts.{IsBalanced, brought, taken};
 
 use crate::chains::Chain;
 use crate::flow_lists::Flows;
@@ -34,7 +34,7 @@ pub(crate) fn backward_of(flow: i32) -> u32
 fn brought(net: &Network, flows: &Flows, link: u32, zone: u8) -> u32
     requires link { link < link_count net.now.shape }
     requires flows { length flows.now ≡ link_count net.now.shape }
-    ensures value { result ≡ (if to_zone net.now.shape link == zone then forward_of (flow_at flows.now link) else 0) + (if from_zone net.now.shape link == zone then backward_of (flow_at flows.now link) else 0) }
+    ensures value { result ≡ brought net.now.shape flows.now link zone }
     ensures most { result ≤ 2147483648 }
 {
     let ends = net.link(link);
@@ -52,7 +52,7 @@ fn brought(net: &Network, flows: &Flows, link: u32, zone: u8) -> u32
 fn taken(net: &Network, flows: &Flows, link: u32, zone: u8) -> u32
     requires link { link < link_count net.now.shape }
     requires flows { length flows.now ≡ link_count net.now.shape }
-    ensures value { result ≡ (if from_zone net.now.shape link == zone then forward_of (flow_at flows.now link) else 0) + (if to_zone net.now.shape link == zone then backward_of (flow_at flows.now link) else 0) }
+    ensures value { result ≡ taken net.now.shape flows.now link zone }
     ensures most { result ≤ 2147483648 }
 {
     let ends = net.link(link);

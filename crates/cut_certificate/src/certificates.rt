@@ -1,7 +1,7 @@
 ghost use Rattle.std.specs.Prelude.{◌↔◌, IsTrue};
 ghost use Rattle.zone_network.specs.Network.{IsNetwork};
 ghost use Rattle.zone_network.specs.Dispatch.{IsBest};
-ghost use Rattle.cut_certificate.specs.Chain.{Fit, IsFeasibleBy, IsProvedBy, IsOnlyBestOutcome, dispatch_of};
+ghost use Rattle.cut_certificate.specs.Chain.{Fit, IsAccepted, IsOnlyBestOutcome, dispatch_of};
 
 use crate::chains::Chain;
 use crate::feasible::is_feasible;
@@ -14,7 +14,7 @@ use zone_network::Network;
 /// those of every best dispatch.
 pub fn check_chain(net: &Network, outcome: &HourOutcome, chain: &Chain) -> bool
     requires { Fit net.now outcome.now chain.now }
-    ensures exact { IsTrue result ↔ (IsFeasibleBy net.now outcome.now chain.now × IsProvedBy net.now outcome.now chain.now) }
+    ensures exact { IsTrue result ↔ IsAccepted net.now outcome.now chain.now }
     ensures best { IsTrue result → IsBest net.now (dispatch_of net.now outcome.now chain.now) }
     ensures outcome { IsTrue result → IsOnlyBestOutcome net.now outcome.now }
 {
@@ -24,7 +24,7 @@ pub fn check_chain(net: &Network, outcome: &HourOutcome, chain: &Chain) -> bool
 /// Whether the outcome with the chain's flows and generation is feasible and each set proves its component.
 fn is_accepted(net: &Network, outcome: &HourOutcome, chain: &Chain) -> bool
     requires { Fit net.now outcome.now chain.now }
-    ensures exact { IsTrue result ↔ (IsFeasibleBy net.now outcome.now chain.now × IsProvedBy net.now outcome.now chain.now) }
+    ensures exact { IsTrue result ↔ IsAccepted net.now outcome.now chain.now }
     ensures valid { IsNetwork net.now }
 {
     is_feasible(net, outcome, chain) && is_proved(net, outcome, chain)

@@ -1,5 +1,5 @@
-ghost use Rattle.std.specs.Prelude.{◌≡◌, ◌+◌, IfOk, pos, replicate};
-ghost use Rattle.zone_network.specs.Network.{link_count, device_count};
+ghost use Rattle.std.specs.Prelude.{◌≡◌, IfOk};
+ghost use Rattle.cut_certificate.specs.Chain.{empty_chain};
 
 use crate::flow_lists::Flows;
 use ra_base::{Amounts, OutOfMemory};
@@ -22,7 +22,7 @@ pub struct Chain {
 impl Chain {
     /// A chain for networks of this shape, all zero.
     pub fn new(alloc: Global, shape: &Shape) -> Result<Chain, OutOfMemory>
-        ensures { IfOk result (λ chain. chain ≡ record { flows = replicate (link_count shape.now) (pos 0); generation = replicate shape.now.zones 0; sets = replicate (shape.now.zones + device_count shape.now + device_count shape.now) 0 }) }
+        ensures { IfOk result (λ chain. chain ≡ empty_chain shape.now) }
     {
         let zones = shape.zones() as usize;
         let links = shape.links() as usize;

@@ -1,9 +1,9 @@
 //! Whether an outcome with a chain's flows and generation is feasible.
 
-ghost use Rattle.std.specs.Prelude.{◌≡◌, ℕ, ◌<◌, ◌↔◌, IsTrue, length};
+ghost use Rattle.std.specs.Prelude.{◌≡◌, ◌<◌, ◌↔◌, IsTrue, length};
 ghost use Rattle.zone_network.specs.Network.{IsNetwork, link_count, device_count};
 ghost use Rattle.cut_certificate.specs.Chain.{Fit, IsFeasibleBy};
-ghost use Rattle.cut_certificate.specs.Parts.{IsFeasibleZone, IsFeasibleDevice, IsFeasibleLink};
+ghost use Rattle.cut_certificate.specs.Parts.{IsFeasibleZone, IsFeasibleDevice, IsFeasibleLink, AreFeasibleZones, AreFeasibleDevices, AreFeasibleLinks};
 
 use crate::balances::{backward_of, forward_of, is_balanced};
 use crate::chains::Chain;
@@ -48,7 +48,7 @@ fn is_feasible_link(net: &Network, flows: &Flows, link: u32) -> bool
 /// Whether each zone is feasible.
 fn are_feasible_zones(net: &Network, outcome: &HourOutcome, chain: &Chain) -> bool
     requires { Fit net.now outcome.now chain.now }
-    ensures exact { IsTrue result ↔ ((z : ℕ) → z < net.now.shape.zones → IsFeasibleZone net.now outcome.now chain.now z) }
+    ensures exact { IsTrue result ↔ AreFeasibleZones net.now outcome.now chain.now net.now.shape.zones }
     ensures valid { IsNetwork net.now }
 {
     for z in 0..net.zones() {
@@ -63,7 +63,7 @@ fn are_feasible_zones(net: &Network, outcome: &HourOutcome, chain: &Chain) -> bo
 fn are_feasible_devices(net: &Network, outcome: &HourOutcome) -> bool
     requires discharge { length outcome.now.discharge ≡ device_count net.now.shape }
     requires charge { length outcome.now.charge ≡ device_count net.now.shape }
-    ensures { IsTrue result ↔ ((k : ℕ) → k < device_count net.now.shape → IsFeasibleDevice net.now outcome.now k) }
+    ensures { IsTrue result ↔ AreFeasibleDevices net.now outcome.now (device_count net.now.shape) }
 {
     for k in 0..net.devices() {
         if !is_feasible_device(net, outcome, k) {
@@ -76,7 +76,7 @@ fn are_feasible_devices(net: &Network, outcome: &HourOutcome) -> bool
 /// Whether each link is feasible.
 fn are_feasible_links(net: &Network, flows: &Flows) -> bool
     requires { length flows.now ≡ link_count net.now.shape }
-    ensures { IsTrue result ↔ ((l : ℕ) → l < link_count net.now.shape → IsFeasibleLink net.now flows.now l) }
+    ensures { IsTrue result ↔ AreFeasibleLinks net.now flows.now (link_count net.now.shape) }
 {
     for l in 0..net.links() {
         if !is_feasible_link(net, flows, l) {

@@ -41,7 +41,8 @@ pub(crate) fn served_in(net: &Network, unserved: &Amounts, mask: u32) -> u64
 #[tactic(auto, using(crate::proofs::SumSteps::sum_steps))]
 pub(crate) fn served_not_after(net: &Network, unserved: &Amounts, mask: u32, last: u8) -> u64
     requires { length unserved.now ≡ net.now.shape.zones }
-    ensures value { result ≡ over_zones net.now.shape (served_but net.now unserved.now) (λ j. inside mask j && not_after net.now.shape last j) }
+    ensures value { let served = served_but net.now unserved.now in
+        result ≡ over_zones net.now.shape served (λ j. inside mask j && not_after net.now.shape last j) }
     ensures most { result ≤ MOST_ZONES * MOST_LINK_MW }
 {
     let mut sum: u64 = 0;
@@ -74,7 +75,8 @@ pub(crate) fn amounts_in(net: &Network, amounts: &Amounts, mask: u32) -> u64
 #[tactic(auto, using(crate::proofs::SumSteps::sum_steps))]
 pub(crate) fn caps_before_in(net: &Network, discharge: &Amounts, device: u32, mask: u32) -> u64
     requires { length discharge.now ≡ device_count net.now.shape }
-    ensures value { result ≡ over_devices net.now.shape (with_caps_before net.now (slice_index discharge.now) device) (inside mask) }
+    ensures value { let given = with_caps_before net.now (slice_index discharge.now) device in
+        result ≡ over_devices net.now.shape given (inside mask) }
     ensures most { result ≤ 549755813760 }
 {
     let mut sum: u64 = 0;

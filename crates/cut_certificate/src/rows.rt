@@ -1,9 +1,9 @@
 //! What a mask proves of a component: that it can't be improved while those before it in the order of
 //! comparison stay.
 
-ghost use Rattle.std.specs.Prelude.{◌≡◌, ℕ, ◌<◌, ◌↔◌, IsTrue, length, slice_index};
+ghost use Rattle.std.specs.Prelude.{◌≡◌, ◌<◌, ◌↔◌, IsTrue, length};
 ghost use Rattle.zone_network.specs.Network.{device_count};
-ghost use Rattle.cut_certificate.specs.Chain.{Fit, served_in, unserved_in, discharge_in, charge_in, zone_set, discharge_set, charge_set, ProvesUnserved, ProvesDischarge, ProvesCharge, IsProvedBy};
+ghost use Rattle.cut_certificate.specs.Chain.{Fit, ProvesUnservedIn, ProvesDischargeIn, ProvesChargeIn, ProveUnserved, ProveDischarge, ProveCharge, IsProvedBy};
 
 use crate::chains::Chain;
 use crate::outcome_sums::{
@@ -17,7 +17,7 @@ use zone_network::{Network, has_zone};
 fn proves_unserved(net: &Network, outcome: &HourOutcome, zone: u8, mask: u32) -> bool
     requires zone { zone < net.now.shape.zones }
     requires unserved { length outcome.now.unserved ≡ net.now.shape.zones }
-    ensures { IsTrue result ↔ ProvesUnserved net.now (served_in net.now outcome.now) (unserved_in outcome.now) zone mask }
+    ensures { IsTrue result ↔ ProvesUnservedIn net.now outcome.now zone mask }
 {
     if mask == 0 {
         return outcome.unserved.get(zone as usize) == 0;
@@ -31,7 +31,7 @@ fn proves_discharge(net: &Network, outcome: &HourOutcome, device: u32, mask: u32
     requires device { device < device_count net.now.shape }
     requires unserved { length outcome.now.unserved ≡ net.now.shape.zones }
     requires discharge { length outcome.now.discharge ≡ device_count net.now.shape }
-    ensures { IsTrue result ↔ ProvesDischarge net.now (served_in net.now outcome.now) (discharge_in outcome.now) device mask }
+    ensures { IsTrue result ↔ ProvesDischargeIn net.now outcome.now device mask }
 {
     if mask == 0 {
         return outcome.discharge.get(device as usize) == 0;
@@ -47,7 +47,7 @@ fn proves_charge(net: &Network, outcome: &HourOutcome, device: u32, mask: u32) -
     requires unserved { length outcome.now.unserved ≡ net.now.shape.zones }
     requires discharge { length outcome.now.discharge ≡ device_count net.now.shape }
     requires charge { length outcome.now.charge ≡ device_count net.now.shape }
-    ensures { IsTrue result ↔ ProvesCharge net.now (served_in net.now outcome.now) (discharge_in outcome.now) (charge_in outcome.now) device mask }
+    ensures { IsTrue result ↔ ProvesChargeIn net.now outcome.now device mask }
 {
     if mask == 0 {
         return outcome.charge.get(device as usize) == net.charge_cap(device);
@@ -63,7 +63,7 @@ fn proves_charge(net: &Network, outcome: &HourOutcome, device: u32, mask: u32) -
 /// Whether each zone's mask proves its unserved load.
 fn prove_unserved(net: &Network, outcome: &HourOutcome, chain: &Chain) -> bool
     requires { Fit net.now outcome.now chain.now }
-    ensures { IsTrue result ↔ ((z : ℕ) → z < net.now.shape.zones → ProvesUnserved net.now (served_in net.now outcome.now) (unserved_in outcome.now) z (zone_set chain.now z)) }
+    ensures { IsTrue result ↔ ProveUnserved net.now outcome.now chain.now net.now.shape.zones }
 {
     for z in 0..net.zones() {
         if !proves_unserved(net, outcome, z, chain.sets.get(z as usize)) {
@@ -76,7 +76,7 @@ fn prove_unserved(net: &Network, outcome: &HourOutcome, chain: &Chain) -> bool
 /// Whether each device's mask for it proves its discharge.
 fn prove_discharge(net: &Network, outcome: &HourOutcome, chain: &Chain) -> bool
     requires { Fit net.now outcome.now chain.now }
-    ensures { IsTrue result ↔ ((k : ℕ) → k < device_count net.now.shape → ProvesDischarge net.now (served_in net.now outcome.now) (discharge_in outcome.now) k (discharge_set net.now chain.now k)) }
+    ensures { IsTrue result ↔ ProveDischarge net.now outcome.now chain.now (device_count net.now.shape) }
 {
     let first = net.zones() as usize;
     for k in 0..net.devices() {
@@ -90,7 +90,7 @@ fn prove_discharge(net: &Network, outcome: &HourOutcome, chain: &Chain) -> bool
 /// Whether each device's mask for it proves its charge.
 fn prove_charge(net: &Network, outcome: &HourOutcome, chain: &Chain) -> bool
     requires { Fit net.now outcome.now chain.now }
-    ensures { IsTrue result ↔ ((k : ℕ) → k < device_count net.now.shape → ProvesCharge net.now (served_in net.now outcome.now) (discharge_in outcome.now) (charge_in outcome.now) k (charge_set net.now chain.now k)) }
+    ensures { IsTrue result ↔ ProveCharge net.now outcome.now chain.now (device_count net.now.shape) }
 {
     let first = net.zones() as usize + net.devices() as usize;
     for k in 0..net.devices() {

@@ -1,9 +1,10 @@
 //! Sums over the zones of a mask, and over the devices and links of these zones.
 
-ghost use Rattle.std.specs.Prelude.{◌≡◌, ◌+◌, ◌*◌, ◌<◌, ◌≤◌, if◌then◌else◌};
+ghost use Rattle.std.specs.Prelude.{◌≡◌, ◌+◌, ◌*◌, ◌<◌, ◌≤◌};
 ghost use Rattle.ra_base.specs.declared.limits.TheConstants.{MOST_ZONES, MOST_INTERFACES, MOST_STORAGES, MOST_LINK_MW};
 ghost use Rattle.zone_network.specs.Sums.{inside};
-ghost use Rattle.zone_network.specs.Network.{IsNetwork, link_count, enters_forward, enters_backward, forward_at, backward_at, into};
+ghost use Rattle.zone_network.specs.Network.{IsNetwork, link_count, into};
+ghost use Rattle.cut_certificate.specs.Parts.{limit_into};
 ghost use Rattle.zone_network.specs.Cut.{load_of, supply_of, discharge_caps_of};
 
 use zone_network::{Network, has_zone};
@@ -70,7 +71,7 @@ pub(crate) fn into(net: &Network, mask: u32) -> u64
 /// The limit of a link towards a mask's zones where it comes from outside them, and else 0.
 fn limit_into(net: &Network, mask: u32, link: u32) -> u32
     requires { link < link_count net.now.shape }
-    ensures value { result ≡ (if enters_forward net.now.shape (inside mask) link then forward_at net.now link else 0) + (if enters_backward net.now.shape (inside mask) link then backward_at net.now link else 0) }
+    ensures value { result ≡ limit_into net.now (inside mask) link }
     ensures most { result ≤ MOST_LINK_MW }
 {
     let ends = net.link(link);

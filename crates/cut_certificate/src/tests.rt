@@ -204,7 +204,8 @@ fn assert_case(rt: &impl Abort, alloc: Global, case: &Case) -> Result<(), OutOfM
 #[test]
 fn claims_are_judged(rt: HostRuntime) -> Result<(), Fail> {
     let cases = [
-        // The second of two zones lacks 20: both together have 90 - 70, the second 50 - 0 - 30, the first 40 - 70.
+        // The second of two zones lacks 20: both together have 90 - 70, the second 50 - 0 - 30, and the
+        // first 40 - 70.
         Case {
             grid: Grid {
                 supply: &[70, 0],

@@ -4,8 +4,9 @@ use Rattle.zone_network.specs.Sums.{NumberSet, inside}
 use Rattle.zone_network.specs.Network.{ShapeParts, NetworkParts, over_devices, zone_of_device, link_count, device_count, supply_at, load_at, discharge_cap_at, charge_cap_at}
 use Rattle.zone_network.specs.Dispatch.{first_served}
 use Rattle.transfer_flow.specs.Flow.{FlowParts, flow_at, spare_at}
+use Rattle.sample_totals.specs.declared.outcomes.HourOutcome.{HourOutcome}
 use Rattle.cut_certificate.specs.declared.chains.Chain.{Chain}
-use Rattle.cut_certificate.specs.Chain.{served_but, generation_in, flow_in, with_caps_before, ProvesUnserved, ProvesDischarge, ProvesCharge}
+use Rattle.cut_certificate.specs.Chain.{served_but, served_in, discharge_in, generation_in, flow_in, with_caps_before, ProvesUnserved, ProvesDischarge, ProvesCharge}
 use Rattle.hour_dispatch.specs.Balance.{IsInBalance}
 
 -- nothing of any number
@@ -54,6 +55,10 @@ pub record IsSpared (n : NetworkParts) (f : FlowParts) (served : ℕ → ℕ) (d
   pub unused : IsUnused n f (with_caps_before n (slice_index discharge) from)
   pub needed : (i : ℕ) → from ≤ i → i < device_count n.shape → 0 < slice_index discharge i → spare_at f (zone_of_device n.shape i) ≡ 0
 
+-- the same of an outcome
+abbrev pub IsSparedIn : NetworkParts → FlowParts → HourOutcome → List ℕ → ℕ → Type 0
+IsSparedIn n f outcome sets from = IsSpared n f (served_in n outcome) outcome.discharge sets from
+
 -- what the devices before one charge
 abbrev pub charged_before : List ℕ → ℕ → ℕ → ℕ
 charged_before charge count i = if nat_lt i count then slice_index charge i else 0
@@ -70,6 +75,10 @@ pub record IsCharged (n : NetworkParts) (f : FlowParts) (served discharge : ℕ 
       → ProvesCharge n served discharge (slice_index charge) i (slice_index sets (n.shape.zones + device_count n.shape + i))
   pub masks : (i : ℕ) → i < count → slice_index sets (n.shape.zones + device_count n.shape + i) < 2 ^ n.shape.zones
   pub unused : (z : ℕ) → z < n.shape.zones → spare_at f z ≤ supply_at n z
+
+-- the same of an outcome
+abbrev pub IsChargedIn : NetworkParts → FlowParts → HourOutcome → List ℕ → ℕ → Type 0
+IsChargedIn n f outcome sets count = IsCharged n f (served_in n outcome) (discharge_in outcome) outcome.charge sets count
 
 -- the first so many numbers stay
 pub record Keeps (count : ℕ) (old new : List ℕ) : Type 0 where

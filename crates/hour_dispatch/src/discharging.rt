@@ -2,7 +2,7 @@ ghost use Rattle.std.specs.Prelude.{◌≡◌, ◌+◌, ◌<◌, length};
 ghost use Rattle.zone_network.specs.Network.{device_count, discharge_cap_at};
 ghost use Rattle.cut_certificate.specs.Chain.{served_in};
 ghost use Rattle.hour_dispatch.specs.Balance.{IsInBalance};
-ghost use Rattle.hour_dispatch.specs.Stages.{IsSpared, IsUnused, Keeps, nothing, set_count};
+ghost use Rattle.hour_dispatch.specs.Stages.{IsSparedIn, IsUnused, Keeps, nothing, set_count};
 
 use ra_base::Amounts;
 use sample_totals::HourOutcome;
@@ -17,11 +17,12 @@ pub(crate) fn discharge(
     outcome: &mut HourOutcome,
     sets: &mut Amounts,
 )
-    requires balance { IsInBalance net.now flow.old (served_in net.now outcome.old) (discharge_cap_at net.now) nothing }
+    requires balance { let served = served_in net.now outcome.old in
+        IsInBalance net.now flow.old served (discharge_cap_at net.now) nothing }
     requires unused { IsUnused net.now flow.old (discharge_cap_at net.now) }
     requires discharge { length outcome.old.discharge ≡ device_count net.now.shape }
     requires sets { length sets.old ≡ set_count net.now.shape }
-    ensures spared { IsSpared net.now flow.new (served_in net.now outcome.new) outcome.new.discharge sets.new 0 }
+    ensures spared { IsSparedIn net.now flow.new outcome.new sets.new 0 }
     ensures stays { outcome.new ≡ record outcome.old { discharge = outcome.new.discharge } }
     ensures kept { Keeps net.now.shape.zones sets.old sets.new }
 {
@@ -39,8 +40,8 @@ fn discharge_device(
     sets: &mut Amounts,
 )
     requires device { device < device_count net.now.shape }
-    requires after { IsSpared net.now flow.old (served_in net.now outcome.old) outcome.old.discharge sets.old (device + 1) }
-    ensures spared { IsSpared net.now flow.new (served_in net.now outcome.new) outcome.new.discharge sets.new device }
+    requires after { IsSparedIn net.now flow.old outcome.old sets.old (device + 1) }
+    ensures spared { IsSparedIn net.now flow.new outcome.new sets.new device }
     ensures stays { outcome.new ≡ record outcome.old { discharge = outcome.new.discharge } }
     ensures kept { Keeps net.now.shape.zones sets.old sets.new }
 {

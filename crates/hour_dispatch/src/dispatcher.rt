@@ -1,7 +1,7 @@
 ghost use Rattle.std.specs.Prelude.{◌≡◌, IfOk};
 ghost use Rattle.zone_network.specs.Network.{ShapeParts};
 ghost use Rattle.zone_network.specs.Cut.{IsCut};
-ghost use Rattle.cut_certificate.specs.Chain.{AreSized, Fit, IsFeasibleBy, IsProvedBy, IsOnlyBestOutcome, all_unserved};
+ghost use Rattle.cut_certificate.specs.Chain.{AreSized, Fit, IsAccepted, IsOnlyBestOutcome, all_unserved};
 ghost use Rattle.cut_certificate.specs.Least.{IsLeastUnserved};
 
 use crate::charging::charge;
@@ -49,7 +49,7 @@ impl Dispatcher {
         requires sizes { AreSized net.now outcome.old chain.old }
         ensures shape { self.new ≡ net.now.shape }
         ensures fit { Fit net.now outcome.new chain.new }
-        ensures accepted { IsFeasibleBy net.now outcome.new chain.new × IsProvedBy net.now outcome.new chain.new }
+        ensures accepted { IsAccepted net.now outcome.new chain.new }
         ensures best { IsOnlyBestOutcome net.now outcome.new }
         ensures cut { IsCut net.now (all_unserved net.now outcome.new) outcome.new.cut }
         ensures least { IsLeastUnserved net.now (all_unserved net.now outcome.new) }

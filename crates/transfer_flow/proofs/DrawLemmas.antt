@@ -8,16 +8,16 @@ use Rattle.zone_network.proofs.LinkLists.{links_of-start, links_of-end}
 use Rattle.zone_network.specs.Masks.{AddsNumber}
 use Rattle.transfer_flow.specs.Flow.{FlowParts, flow_at, spare_at, IsWithinLimits, Moves}
 use Rattle.transfer_flow.specs.Reach.{room, start_of, end_of, IsUsedUp}
-use Rattle.transfer_flow.specs.Draw.{IsEntered, IsDry, CanDraw, Draws, Carries}
+use Rattle.transfer_flow.specs.Draw.{IsEntered, IsDry, IsUnbound, CanDraw, Draws, Carries}
 use Rattle.zone_network.proofs.MaskLemmas.{inside_zero}
 use Rattle.transfer_flow.proofs.MoveLemmas.{moves-none, moves-then, moves-along, moves-spare, carries-within}
 use Rattle.transfer_flow.proofs.WayLemmas.{both_ends, start_there}
 
 -- how far the search of a zone has come: it took the zone's own spare, and went along the first so many of the links listed
-pub record DrawsSoFar (n : NetworkParts) (old new : FlowParts) (zone before after asked drawn : ℕ) (listed : List ℕ) (upto : ℕ) : Type 0 where
-  pub draws : Draws n old new zone before after asked drawn
+pub record DrawsSoFar (n : NetworkParts) (old new : FlowParts) (steps : List ℕ) (zone before after asked drawn : ℕ) (listed : List ℕ) (upto : ℕ) : Type 0 where
+  pub draws : Draws n old new steps zone before after asked drawn
   pub spare : drawn ≡ 0 → spare_at old zone ≡ 0
-  pub entered : drawn ≡ 0 → (k : ℕ) → k < upto → IsEntered n old true after zone (get_or listed k 0)
+  pub entered : IsUnbound steps → drawn ≡ 0 → (k : ℕ) → k < upto → IsEntered n old true after zone (get_or listed k 0)
 
 -- a zone that was entered from zones that were seen stays so as more are seen
 pub entered-grown : (n : NetworkParts) (f : FlowParts) (towards : Bool) (before after z l : ℕ)
@@ -35,13 +35,13 @@ dry-grown n f before after z grown h =
     record { spare = h.spare; links = λ l below. entered-grown n f true before after z l grown (h.links l below) }
 
 -- a zone's own spare is taken first
-pub draws-spare : (n : NetworkParts) (old new : FlowParts) (zone seen asked given : ℕ) (listed : List ℕ)
+pub draws-spare : (n : NetworkParts) (old new : FlowParts) (steps : List ℕ) (zone seen asked given : ℕ) (listed : List ℕ)
     → CanDraw n old zone seen asked
     → zone < length old.spares
     → given ≡ min (spare_at old zone) asked
     → new ≡ record old { spares = slice_set old.spares zone (spare_at old zone - given) }
-    → DrawsSoFar n old new zone seen seen asked given listed 0
-draws-spare n old new zone seen asked given listed can among is after =
+    → DrawsSoFar n old new steps zone seen seen asked given listed 0
+draws-spare n old new steps zone seen asked given listed can among is after =
     let flows : (l : ℕ) → flow_at new l ≡ flow_at old l = λ l. ap (λ (f : FlowParts). flow_at f l) after in
     let limits : IsWithinLimits n new =
     let P : FlowParts → Type 0 = λ f. IsWithinLimits n f in
@@ -63,18 +63,18 @@ draws-spare n old new zone seen asked given listed can among is after =
             among = can.among;
             kept = λ l below a b. flows l;
             still = still;
-            dry = λ e z h. inl h;
+            dry = λ unbound e z h. inl h;
           };
       spare = λ nothing. omega (arith, can.some);
-      entered = λ nothing k below. absurd (omega arith);
+      entered = λ unbound nothing k below. absurd (omega arith);
     }
 
 -- a search of one link after the searches before it
-pub draws-then : (n : NetworkParts) (old mid new : FlowParts) (zone before between after asked first second : ℕ)
-    → Draws n old mid zone before between asked first
-    → Draws n mid new zone between after (asked - first) second
-    → Draws n old new zone before after asked (first + second)
-draws-then n old mid new zone before between after asked first second a b =
+pub draws-then : (n : NetworkParts) (old mid new : FlowParts) (steps : List ℕ) (zone before between after asked first second : ℕ)
+    → Draws n old mid steps zone before between asked first
+    → Draws n mid new steps zone between after (asked - first) second
+    → Draws n old new steps zone before after asked (first + second)
+draws-then n old mid new steps zone before between after asked first second a b =
     record {
       shape = b.shape;
       limits = b.limits;
@@ -88,10 +88,10 @@ draws-then n old mid new zone before between after asked first second a b =
           b.kept l below (a.grown (from_zone n.shape l) p) (a.grown (to_zone n.shape l) q) ∙ a.kept l below p q;
       still = λ nothing. b.still (omega arith) ∙ a.still (omega arith);
       dry =
-          λ nothing z h.
-          elim (b.dry (omega arith) z h) [
+          λ unbound nothing z h.
+          elim (b.dry unbound (omega arith) z h) [
             | inl earlier ↦
-                elim (a.dry (omega arith) z earlier) [
+                elim (a.dry unbound (omega arith) z earlier) [
                   | inl first' ↦ inl first'
                   | inr dry' ↦ inr (dry-grown n old between after z b.grown dry')
                 ]
@@ -99,24 +99,24 @@ draws-then n old mid new zone before between after asked first second a b =
           ];
     }
 
-pub draws-more : (n : NetworkParts) (old mid new : FlowParts) (zone before between after asked first second : ℕ) (listed : List ℕ) (upto : ℕ)
-    → DrawsSoFar n old mid zone before between asked first listed upto
-    → Draws n mid new zone between after (asked - first) second
-    → (second ≡ 0 → IsEntered n mid true after zone (get_or listed upto 0))
-    → DrawsSoFar n old new zone before after asked (first + second) listed (upto + 1)
-draws-more n old mid new zone before between after asked first second listed upto a b entered =
+pub draws-more : (n : NetworkParts) (old mid new : FlowParts) (steps : List ℕ) (zone before between after asked first second : ℕ) (listed : List ℕ) (upto : ℕ)
+    → DrawsSoFar n old mid steps zone before between asked first listed upto
+    → Draws n mid new steps zone between after (asked - first) second
+    → (IsUnbound steps → second ≡ 0 → IsEntered n mid true after zone (get_or listed upto 0))
+    → DrawsSoFar n old new steps zone before after asked (first + second) listed (upto + 1)
+draws-more n old mid new steps zone before between after asked first second listed upto a b entered =
     record {
-      draws = draws-then n old mid new zone before between after asked first second a.draws b;
+      draws = draws-then n old mid new steps zone before between after asked first second a.draws b;
       spare = λ nothing. a.spare (omega arith);
       entered =
-          λ nothing k below.
+          λ unbound nothing k below.
           elim (cases_eq k upto) [
             | inl here ↦
                 let at : IsEntered n old true after zone (get_or listed upto 0) =
-                subst (λ (f : FlowParts). IsEntered n f true after zone (get_or listed upto 0)) (a.draws.still (omega arith)) (entered (omega arith)) in
+                subst (λ (f : FlowParts). IsEntered n f true after zone (get_or listed upto 0)) (a.draws.still (omega arith)) (entered unbound (omega arith)) in
                 subst (λ (i : ℕ). IsEntered n old true after zone (get_or listed i 0)) (sym here) at
             | inr other ↦
-                entered-grown n old true between after zone (get_or listed k 0) b.grown (a.entered (omega arith) k (omega arith))
+                entered-grown n old true between after zone (get_or listed k 0) b.grown (a.entered unbound (omega arith) k (omega arith))
           ];
     }
 
@@ -140,17 +140,18 @@ entered-listed n f towards seen zone l each below =
     listed s zone l false below end = links_of-start s zone l below end
 
 -- at the zone's last link
-pub draws-own : (n : NetworkParts) (old new : FlowParts) (zone before after asked drawn upto : ℕ)
-    → DrawsSoFar n old new zone before after asked drawn (links_of n.shape zone) upto
+pub draws-own : (n : NetworkParts) (old new : FlowParts) (steps : List ℕ) (zone before after asked drawn upto : ℕ)
+    → DrawsSoFar n old new steps zone before after asked drawn (links_of n.shape zone) upto
     → length (links_of n.shape zone) ≤ upto
+    → IsUnbound steps
     → drawn ≡ 0
     → IsDry n old after zone
-draws-own n old new zone before after asked drawn upto h all nothing =
+draws-own n old new steps zone before after asked drawn upto h all unbound nothing =
     record {
       spare = h.spare nothing;
       links =
           λ l below.
-          entered-listed n old true after zone l (λ k less. h.entered nothing k (omega arith)) below;
+          entered-listed n old true after zone l (λ k less. h.entered unbound nothing k (omega arith)) below;
     }
 
 -- what was seen before a zone was marked is seen after it
@@ -162,33 +163,34 @@ marked-grown seen other marked adds z h =
     ]
 
 -- what the search of the far end found dry
-far-dry : (n : NetworkParts) (old mid : FlowParts) (other seen marked after asked drawn : ℕ)
+far-dry : (n : NetworkParts) (old mid : FlowParts) (steps : List ℕ) (other seen marked after asked drawn : ℕ)
     → AddsNumber seen other marked
-    → Draws n old mid other marked after asked drawn
-    → (drawn ≡ 0 → IsDry n old after other)
+    → Draws n old mid steps other marked after asked drawn
+    → (IsUnbound steps → drawn ≡ 0 → IsDry n old after other)
+    → IsUnbound steps
     → drawn ≡ 0
     → (z : ℕ)
     → IsTrue (inside after z)
     → IsTrue (inside seen z) ⊎ IsDry n old after z
-far-dry n old mid other seen marked after asked drawn adds draws own nothing z h =
-    elim (draws.dry nothing z h) [
+far-dry n old mid steps other seen marked after asked drawn adds draws own unbound nothing z h =
+    elim (draws.dry unbound nothing z h) [
       | inl earlier ↦
           elim (cases_eq z other) [
-            | inl here ↦ inr (subst (λ (w : ℕ). IsDry n old after w) (sym here) (own nothing))
+            | inl here ↦ inr (subst (λ (w : ℕ). IsDry n old after w) (sym here) (own unbound nothing))
             | inr apart ↦ inl (sym (adds.others z apart) ∙ earlier)
           ]
       | inr dry' ↦ inr dry'
     ]
 
 -- a link's search where nothing came
-pub draws-still : (n : NetworkParts) (old mid : FlowParts) (near far seen marked after asked asked' drawn : ℕ)
+pub draws-still : (n : NetworkParts) (old mid : FlowParts) (steps : List ℕ) (near far seen marked after asked asked' drawn : ℕ)
     → CanDraw n old near seen asked
     → AddsNumber seen far marked
-    → Draws n old mid far marked after asked' drawn
-    → (drawn ≡ 0 → IsDry n old after far)
+    → Draws n old mid steps far marked after asked' drawn
+    → (IsUnbound steps → drawn ≡ 0 → IsDry n old after far)
     → drawn ≡ 0
-    → Draws n old mid near seen after asked drawn
-draws-still n old mid near far seen marked after asked asked' drawn can adds draws own nothing =
+    → Draws n old mid steps near seen after asked drawn
+draws-still n old mid steps near far seen marked after asked asked' drawn can adds draws own nothing =
     let same : mid ≡ old = draws.still nothing in
     record {
       shape = draws.shape;
@@ -202,11 +204,11 @@ draws-still n old mid near far seen marked after asked asked' drawn can adds dra
       among = draws.among;
       kept = λ l below p q. ap (λ (f : FlowParts). flow_at f l) same;
       still = λ e. same;
-      dry = λ e z h. far-dry n old mid far seen marked after asked' drawn adds draws own nothing z h;
+      dry = λ unbound e z h. far-dry n old mid steps far seen marked after asked' drawn adds draws own unbound nothing z h;
     }
 
 -- a link's search, where something came, which goes on along the link
-pub draws-along : (n : NetworkParts) (old mid new : FlowParts) (link : ℕ) (forward : Bool) (seen marked after asked asked' drawn : ℕ)
+pub draws-along : (n : NetworkParts) (old mid new : FlowParts) (steps : List ℕ) (link : ℕ) (forward : Bool) (seen marked after asked asked' drawn : ℕ)
     → IsShape n.shape
     → link < link_count n.shape
     → CanDraw n old (end_of n.shape link forward) seen asked
@@ -215,10 +217,10 @@ pub draws-along : (n : NetworkParts) (old mid new : FlowParts) (link : ℕ) (for
     → asked' ≤ asked
     → asked' ≤ room n old link forward
     → 0 < drawn
-    → Draws n old mid (start_of n.shape link forward) marked after asked' drawn
+    → Draws n old mid steps (start_of n.shape link forward) marked after asked' drawn
     → Carries mid new link forward drawn
-    → Draws n old new (end_of n.shape link forward) seen after asked drawn
-draws-along n old mid new link forward seen marked after asked asked' drawn valid among can unseen adds less roomy some draws moved =
+    → Draws n old new steps (end_of n.shape link forward) seen after asked drawn
+draws-along n old mid new steps link forward seen marked after asked asked' drawn valid among can unseen adds less roomy some draws moved =
     let start : ℕ = start_of n.shape link forward in
     let grown : (z : ℕ) → IsTrue (inside seen z) → IsTrue (inside marked z) = marked-grown seen (start_of n.shape link forward) marked adds in
     let ends : IsTrue (inside marked (from_zone n.shape link)) × IsTrue (inside marked (to_zone n.shape link)) =
@@ -240,7 +242,7 @@ draws-along n old mid new link forward seen marked after asked asked' drawn vali
           false≢true (sym unseen ∙ subst P here (start_there n.shape l forward (inside seen) p q)) in
           moved.others l other ∙ draws.kept l below (grown (from_zone n.shape l) p) (grown (to_zone n.shape l) q);
       still = λ nothing. absurd (omega arith);
-      dry = λ nothing. absurd (omega arith);
+      dry = λ unbound nothing. absurd (omega arith);
     }
 
 -- how far a pull has come: the goal's own spare was taken, and searches brought more
@@ -277,22 +279,44 @@ pulls-own n old new goal asked given shape limits among is after =
           ];
     }
 
+-- one pull more
+pub pulls-then : (n : NetworkParts) (old mid new : FlowParts) (goal asked moved more : ℕ)
+    → PullsSoFar n old mid goal asked moved
+    → new.shape ≡ n.shape
+    → IsWithinLimits n new
+    → Moves n.shape mid new goal more
+    → more ≤ asked - moved
+    → PullsSoFar n old new goal asked (moved + more)
+pulls-then n old mid new goal asked moved more before shape limits move most =
+    record {
+      shape = shape;
+      limits = limits;
+      moves = moves-then n.shape old mid new goal moved more before.moves move;
+      most = omega (arith, before.most);
+      own =
+          elim before.own [
+            | inl none ↦ inl (omega (arith, move.fell goal))
+            | inr enough ↦ inr (omega (arith, move.fell goal))
+          ];
+    }
+
 -- where a search from the goal alone moves nothing, what it saw is used up
-pub pull-short : (n : NetworkParts) (old new : FlowParts) (goal seen after asked drawn : ℕ)
+pub pull-short : (n : NetworkParts) (old new : FlowParts) (steps : List ℕ) (goal seen after asked drawn : ℕ)
     → IsShape n.shape
     → AddsNumber 0 goal seen
-    → Draws n old new goal seen after asked drawn
-    → (drawn ≡ 0 → IsDry n old after goal)
+    → Draws n old new steps goal seen after asked drawn
+    → IsUnbound steps
+    → (IsUnbound steps → drawn ≡ 0 → IsDry n old after goal)
     → drawn ≡ 0
     → IsUsedUp n new goal after
-pull-short n old new goal seen after asked drawn valid adds draws own nothing =
+pull-short n old new steps goal seen after asked drawn valid adds draws unbound own nothing =
     let same : new ≡ old = draws.still nothing in
     let dry : (w : ℕ) → IsTrue (inside after w) → IsDry n old after w =
     λ w h.
-    elim (draws.dry nothing w h) [
+    elim (draws.dry unbound nothing w h) [
       | inl first ↦
           elim (cases_eq w goal) [
-            | inl here ↦ subst (λ (x : ℕ). IsDry n old after x) (sym here) (own nothing)
+            | inl here ↦ subst (λ (x : ℕ). IsDry n old after x) (sym here) (own unbound nothing)
             | inr apart ↦ absurd (false≢true (sym (inside_zero w) ∙ sym (adds.others w apart) ∙ first))
           ]
       | inr found ↦ found

@@ -1,5 +1,5 @@
 -- what a search for spare amounts needs, and what it has done
-use Rattle.std.specs.Prelude.{◌≡◌, ◌≢◌, ℕ, ◌+◌, ◌-◌, ◌*◌, ◌<◌, ◌≤◌, ◌^◌, ◌⊎◌, IsTrue, Bool, true, not}
+use Rattle.std.specs.Prelude.{◌≡◌, ◌≢◌, ℕ, ◌+◌, ◌-◌, ◌*◌, ◌<◌, ◌≤◌, ◌^◌, ◌⊎◌, IsTrue, Bool, true, not, List, length}
 use Rattle.ra_base.specs.declared.limits.TheConstants.{MOST_LINK_MW}
 use Rattle.zone_network.specs.Sums.{inside}
 use Rattle.zone_network.specs.Network.{NetworkParts, link_count, from_zone, to_zone}
@@ -27,9 +27,13 @@ pub record CanDraw (n : NetworkParts) (f : FlowParts) (zone seen asked : ℕ) : 
   pub among : seen < 2 ^ n.shape.zones
   pub some : 0 < asked
 
+-- where no zone has a number of steps a search goes any way; else only on to zones that lie more steps away
+abbrev pub IsUnbound : List ℕ → Type 0
+IsUnbound steps = length steps ≡ 0
+
 -- what such a search has done: it moved some of what was asked, left links between zones that were seen before as
--- they were, and where it moved nothing it found each zone that it saw dry
-pub record Draws (n : NetworkParts) (old new : FlowParts) (zone before after asked drawn : ℕ) : Type 0 where
+-- they were, and where it moved nothing and was bound by no steps it found each zone that it saw dry
+pub record Draws (n : NetworkParts) (old new : FlowParts) (steps : List ℕ) (zone before after asked drawn : ℕ) : Type 0 where
   pub shape : new.shape ≡ n.shape
   pub limits : IsWithinLimits n new
   pub moves : Moves n.shape old new zone drawn
@@ -44,7 +48,7 @@ pub record Draws (n : NetworkParts) (old new : FlowParts) (zone before after ask
       → IsTrue (inside before (to_zone n.shape l))
       → flow_at new l ≡ flow_at old l
   pub still : drawn ≡ 0 → new ≡ old
-  pub dry : drawn ≡ 0 → (z : ℕ) → IsTrue (inside after z) → IsTrue (inside before z) ⊎ IsDry n old after z
+  pub dry : IsUnbound steps → drawn ≡ 0 → (z : ℕ) → IsTrue (inside after z) → IsTrue (inside before z) ⊎ IsDry n old after z
 
 -- a link carries so much more one way
 pub record Carries (old new : FlowParts) (link : ℕ) (forward : Bool) (by : ℕ) : Type 0 where

@@ -27,7 +27,11 @@ impl Model for Flow {
 
     ghost view = { λ f. record { shape = f.shape; flows = f.flows.items; spares = f.spares.items } };
 
-    ghost invariant = { λ f. IsFlow (record { shape = f.shape; flows = f.flows.items; spares = f.spares.items }) };
+    ghost invariant = { λ f. IsFlow (record {
+      shape = f.shape;
+      flows = f.flows.items;
+      spares = f.spares.items;
+    }) };
 }
 
 impl Flow {
@@ -111,7 +115,8 @@ impl Flow {
         requires { zone < self.old.shape.zones }
         ensures valid { IsFlow self.old }
         ensures given { result ≡ min (spare_at self.old zone) most }
-        ensures after { self.new ≡ record self.old { spares = slice_set self.old.spares zone (spare_at self.old zone - result) } }
+        ensures after { let left = spare_at self.old zone - result in
+            self.new ≡ record self.old { spares = slice_set self.old.spares zone left } }
     {
         let spare = self.spare(zone);
         let given = spare.min(most);

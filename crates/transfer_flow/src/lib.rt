@@ -8,6 +8,7 @@ mod flows;
 mod pulls;
 mod reaches;
 mod signed;
+mod steps;
 mod ways;
 
 pub use flows::Flow;

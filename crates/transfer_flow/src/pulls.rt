@@ -3,10 +3,11 @@ ghost use Rattle.zone_network.specs.Sums.{inside};
 ghost use Rattle.zone_network.specs.Network.{link_count};
 ghost use Rattle.transfer_flow.specs.Flow.{IsWithinLimits, Moves, spare_at};
 ghost use Rattle.transfer_flow.specs.Reach.{Reaches, IsUsedUp, start_of, end_of};
-ghost use Rattle.transfer_flow.specs.Draw.{CanDraw, Draws, IsDry, IsEntered};
+ghost use Rattle.transfer_flow.specs.Draw.{CanDraw, Draws, IsDry, IsEntered, IsUnbound};
 
 use crate::flows::Flow;
-use crate::ways::start_of;
+use crate::steps::leads_away;
+use crate::ways::{end_of, start_of};
 use zone_network::{Network, has_zone, with_zone};
 
 /// How a pull ended.
@@ -53,7 +54,7 @@ impl Flow {
         let mut moved = self.take_spare(goal, most);
         while moved < most {
             let mut seen = with_zone(0, goal);
-            let more = self.draw(net, goal, most - moved, &mut seen);
+            let more = self.draw(net, goal, most - moved, &[], &mut seen);
             if more == 0 {
                 return Pull {
                     moved,
@@ -61,18 +62,44 @@ impl Flow {
                 };
             }
             moved += more;
+            moved += self.pull_over_few_links(net, goal, most - moved);
         }
         Pull { moved, searched: 0 }
     }
 
+    /// Moves up to `most` MW to a zone, always over the fewest links that some way needs, until none is
+    /// left. So a search that happens upon long ways can't go on for long.
+    fn pull_over_few_links(&mut self, net: &Network, goal: u8, most: u32) -> u32
+        requires shape { self.old.shape ≡ net.now.shape }
+        requires limits { IsWithinLimits net.now self.old }
+        requires goal { goal < net.now.shape.zones }
+        ensures shape { self.new.shape ≡ net.now.shape }
+        ensures limits { IsWithinLimits net.now self.new }
+        ensures moves { Moves net.now.shape self.old self.new goal result }
+        ensures most { result ≤ most }
+    {
+        prove!(goal < net.zones());
+        let mut moved = 0;
+        while moved < most {
+            let steps = self.steps_to(net, goal);
+            let mut seen = with_zone(0, goal);
+            let more = self.draw(net, goal, most - moved, &steps, &mut seen);
+            if more == 0 {
+                break;
+            }
+            moved += more;
+        }
+        moved
+    }
+
     /// Draws up to `most` MW to a zone that is marked as seen: from its own spare, then along each link
-    /// from zones that aren't.
+    /// from zones that aren't. Where zones have numbers of steps, only from those that lie more steps away.
     #[cycle(draws)]
-    fn draw(&mut self, net: &Network, zone: u8, most: u32, seen: &mut u32) -> u32
+    fn draw(&mut self, net: &Network, zone: u8, most: u32, steps: &[u8], seen: &mut u32) -> u32
         requires zone { zone < net.now.shape.zones }
         requires can { CanDraw net.now self.old zone seen.old most }
-        ensures draws { Draws net.now self.old self.new zone seen.old seen.new most result }
-        ensures own { result ≡ 0 → IsDry net.now self.old seen.new zone }
+        ensures draws { Draws net.now self.old self.new steps.now zone seen.old seen.new most result }
+        ensures own { IsUnbound steps.now → result ≡ 0 → IsDry net.now self.old seen.new zone }
     {
         let mut drawn = self.take_spare(zone, most);
         for link in net.links_of(zone) {
@@ -80,7 +107,7 @@ impl Flow {
                 break;
             }
             let forward = net.link(*link).to == zone;
-            drawn += self.draw_along(net, *link, forward, most - drawn, seen);
+            drawn += self.draw_along(net, *link, forward, most - drawn, steps, seen);
         }
         drawn
     }
@@ -93,20 +120,26 @@ impl Flow {
         link: u32,
         forward: bool,
         most: u32,
+        steps: &[u8],
         seen: &mut u32,
     ) -> u32
         requires link { link < link_count net.now.shape }
         requires can { CanDraw net.now self.old (end_of net.now.shape link forward) seen.old most }
-        ensures draws { Draws net.now self.old self.new (end_of net.now.shape link forward) seen.old seen.new most result }
-        ensures entered { result ≡ 0 → IsEntered net.now self.old true seen.new (end_of net.now.shape link forward) link }
+        ensures draws { let zone = end_of net.now.shape link forward in
+            Draws net.now self.old self.new steps.now zone seen.old seen.new most result }
+        ensures entered { let zone = end_of net.now.shape link forward in
+            IsUnbound steps.now → result ≡ 0 → IsEntered net.now self.old true seen.new zone link }
     {
         let start = start_of(net, link, forward);
         let room = self.room(net, link, forward);
         if room == 0 || has_zone(*seen, start) {
             return 0;
         }
+        if !leads_away(steps, start, end_of(net, link, forward)) {
+            return 0;
+        }
         *seen = with_zone(*seen, start);
-        let drawn = self.draw(net, start, most.min(room), seen);
+        let drawn = self.draw(net, start, most.min(room), steps, seen);
         if drawn > 0 {
             self.carry(link, forward, drawn);
         }

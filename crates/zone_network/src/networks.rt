@@ -27,9 +27,25 @@ pub struct Network {
 impl Model for Network {
     ghost Value = { NetworkParts };
 
-    ghost view = { λ n. record { shape = n.shape; supplies = n.supply; loads = n.load; forwards = n.forward; backwards = n.backward; discharge_caps = n.discharge; charge_caps = n.charge } };
+    ghost view = { λ n. record {
+      shape = n.shape;
+      supplies = n.supply;
+      loads = n.load;
+      forwards = n.forward;
+      backwards = n.backward;
+      discharge_caps = n.discharge;
+      charge_caps = n.charge;
+    } };
 
-    ghost invariant = { λ n. IsNetwork (record { shape = n.shape; supplies = n.supply; loads = n.load; forwards = n.forward; backwards = n.backward; discharge_caps = n.discharge; charge_caps = n.charge }) };
+    ghost invariant = { λ n. IsNetwork (record {
+      shape = n.shape;
+      supplies = n.supply;
+      loads = n.load;
+      forwards = n.forward;
+      backwards = n.backward;
+      discharge_caps = n.discharge;
+      charge_caps = n.charge;
+    }) };
 }
 
 impl Network {
@@ -77,7 +93,10 @@ impl Network {
         requires link { link < link_count self.old.shape }
         requires forward { forward ≤ MOST_LINK_MW }
         requires backward { backward ≤ MOST_LINK_MW }
-        ensures { self.new ≡ record self.old { forwards = slice_set self.old.forwards link forward; backwards = slice_set self.old.backwards link backward } }
+        ensures { self.new ≡ record self.old {
+          forwards = slice_set self.old.forwards link forward;
+          backwards = slice_set self.old.backwards link backward;
+        } }
     {
         self.forward.set(link as usize, forward);
         self.backward.set(link as usize, backward);
@@ -89,7 +108,10 @@ impl Network {
         requires device { device < device_count self.old.shape }
         requires discharge { discharge ≤ MOST_LINK_MW }
         requires charge { charge ≤ MOST_LINK_MW }
-        ensures { self.new ≡ record self.old { discharge_caps = slice_set self.old.discharge_caps device discharge; charge_caps = slice_set self.old.charge_caps device charge } }
+        ensures { self.new ≡ record self.old {
+          discharge_caps = slice_set self.old.discharge_caps device discharge;
+          charge_caps = slice_set self.old.charge_caps device charge;
+        } }
     {
         self.discharge.set(device as usize, discharge);
         self.charge.set(device as usize, charge);

@@ -26,7 +26,12 @@ impl Model for Shape {
 
     ghost view = { λ s. record { zones = s.zones; ends = s.links.items; device_zones = s.devices.items } };
 
-    ghost invariant = { λ s. IsShape (record { zones = s.zones; ends = s.links.items; device_zones = s.devices.items }) × (s.zone_links.items ≡ map (touching s.links.items) (range_with_len 0 s.zones)) };
+    ghost invariant = { λ s. IsShape (record {
+      zones = s.zones;
+      ends = s.links.items;
+      device_zones = s.devices.items;
+    })
+        × (s.zone_links.items ≡ map (touching s.links.items) (range_with_len 0 s.zones)) };
 }
 
 impl Shape {
@@ -38,7 +43,8 @@ impl Shape {
         devices: &[u8],
     ) -> Result<Shape, OutOfMemory>
         requires shape { IsShape (record { zones = zones; ends = links.now; device_zones = devices.now }) }
-        ensures { IfOk result (λ shape. shape ≡ record { zones = zones; ends = links.now; device_zones = devices.now }) }
+        ensures { IfOk result (λ shape.
+            shape ≡ record { zones = zones; ends = links.now; device_zones = devices.now }) }
     {
         Ok(Shape {
             zones,

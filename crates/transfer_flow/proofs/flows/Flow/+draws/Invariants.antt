@@ -11,4 +11,4 @@ abbrev pub decreases-draw_along : goal.decreases-draw_along
 decreases-draw_along l = 2 * (2 ^ 32 - l.seen.now)
 
 abbrev pub invariant-draw-loop-link : goal.invariant-draw-loop-link
-invariant-draw-loop-link l = DrawsSoFar l.net l.fn.self l.self l.zone l.fn.seen l.seen l.most l.drawn (links_of l.net.shape l.zone) l.link-index
+invariant-draw-loop-link l = DrawsSoFar l.net l.fn.self l.self l.steps l.zone l.fn.seen l.seen l.most l.drawn (links_of l.net.shape l.zone) l.link-index
