@@ -106,9 +106,10 @@ all_among m ns below once long n l =
 
 all_below_from : (m : ℕ) (ns : List ℕ) → ((n : ℕ) → list_any (λ k. k == n) ns ≡ true → n < m) → AllBelow m ns
 all_below_from m [] h = tt
-all_below_from m (n ∷ ns) h =
-    (h n (or_left (n == n) (list_any (λ k. k == n) ns) (eq-eqb n n refl)),
-     all_below_from m ns (λ i at. h i (or_right (n == i) (list_any (λ k. k == i) ns) at)))
+all_below_from m (n ∷ ns) h = (
+  h n (or_left (n == n) (list_any (λ k. k == n) ns) (eq-eqb n n refl)),
+  all_below_from m ns (λ i at. h i (or_right (n == i) (list_any (λ k. k == i) ns) at)),
+)
 
 -- an element of a list with one more at its end
 at_end : {A : Type 0} (l : List A) (a b : A) (j : ℕ) → get_elem? (l ++ a ∷ []) j ≡ some b → (get_elem? l j ≡ some b) ⊎ ((j ≡ length l) × (a ≡ b))
@@ -126,8 +127,18 @@ module _ {B : Type 0} where
 
   settled_seat : (k : Opening B) (made : ℕ) (h : List Entry) (v : View B) → IsSeat k made h v → IsSeat k made h (settled v)
   settled_seat k made h v seat = record {
-    first = seat.first; target = seat.target; block = seat.block; seen = seat.seen; also = (h, refl); mine = seat.mine; others = seat.others; out = seat.out;
-    apart = seat.apart; below = seat.below; keeps_made = seat.keeps_made; found = seat.found;
+    first = seat.first;
+    target = seat.target;
+    block = seat.block;
+    seen = seat.seen;
+    also = (h, refl);
+    mine = seat.mine;
+    others = seat.others;
+    out = seat.out;
+    apart = seat.apart;
+    below = seat.below;
+    keeps_made = seat.keeps_made;
+    found = seat.found;
   }
 
   module _ {L : Type 0} (stands : B → List SampleRange → Type 0) (label : B → L) (k : Opening B) where
@@ -145,24 +156,29 @@ module _ {B : Type 0} where
         let w = settled v in
         let n = slice_index s.words 0 in
         let words : set s.words 0 n ≡ s.words =
-            ap (λ (l : List ℕ). set l 0 n) kept.words ∙ (ap (λ m. m ∷ turn_word kept.out (length (deposits_of kept.history)) ∷ []) (ap (λ (l : List ℕ). slice_index l 0) kept.words) ∙ sym kept.words) in
-        let own = settled_seat k kept.made kept.history v seat in
-        (w, keeps, tt, record {
-          history = kept.history;
-          made = kept.made;
-          out = kept.out;
-          target = kept.target;
-          block = kept.block;
-          legal = kept.legal;
-          words = words ∙ kept.words;
-          book = book_set kept.out kept.history s (set s.words 0 n) id v w there refl refl kept.book;
-          seats = set_seats k kept.made kept.history kept.history s.views id v w kept.seats there live (λ n. refl) own (λ j u at ne alive. kept.seats.each j u at alive);
-          unmade = kept.unmade;
-        }, (
-          refl,
-          prefix_shorter v.also v.seen kept.history seat.also seat.seen shorter,
-          sound_seat k kept.made kept.history w kept.target kept.block kept.legal kept.unmade own,
-        ))
+        ap (λ (l : List ℕ). set l 0 n) kept.words ∙ (ap (λ m. m ∷ turn_word kept.out (length (deposits_of kept.history)) ∷ []) (ap (λ (l : List ℕ). slice_index l 0) kept.words) ∙ sym kept.words) in
+        let own = settled_seat k kept.made kept.history v seat in (
+          w,
+          keeps,
+          tt,
+          record {
+            history = kept.history;
+            made = kept.made;
+            out = kept.out;
+            target = kept.target;
+            block = kept.block;
+            legal = kept.legal;
+            words = words ∙ kept.words;
+            book = book_set kept.out kept.history s (set s.words 0 n) id v w there refl refl kept.book;
+            seats = set_seats k kept.made kept.history kept.history s.views id v w kept.seats there live (λ n. refl) own (λ j u at ne alive. kept.seats.each j u at alive);
+            unmade = kept.unmade;
+          },
+          (
+            refl,
+            prefix_shorter v.also v.seen kept.history seat.also seat.seen shorter,
+            sound_seat k kept.made kept.history w kept.target kept.block kept.legal kept.unmade own,
+          ),
+        )
 
     -- ---- the opening seat makes another
 
@@ -175,16 +191,36 @@ module _ {B : Type 0} where
 
       more_made : (u : View B) → IsSeat k kept.made kept.history u → (u.number ≡ 0 → u.made ≡ kept.made + 1) → IsSeat k (kept.made + 1) kept.history u
       more_made u seat made = record {
-        first = seat.first; target = seat.target; block = seat.block; seen = seat.seen; also = seat.also; mine = seat.mine; others = seat.others; out = seat.out;
-        apart = seat.apart; below = λ n own. omega (arith, seat.below n own); keeps_made = made; found = seat.found;
+        first = seat.first;
+        target = seat.target;
+        block = seat.block;
+        seen = seat.seen;
+        also = seat.also;
+        mine = seat.mine;
+        others = seat.others;
+        out = seat.out;
+        apart = seat.apart;
+        below = λ n own. omega (arith, seat.below n own);
+        keeps_made = made;
+        found = seat.found;
       }
 
       left_seat : IsSeat k (kept.made + 1) kept.history (with_made v)
       left_seat =
           let seat = kept.seats.each id v there live in
           record {
-            first = seat.first; target = seat.target; block = seat.block; seen = seat.seen; also = seat.also; mine = seat.mine; others = seat.others; out = seat.out;
-            apart = seat.apart; below = λ n own. omega (arith, seat.below n own); keeps_made = λ z. ap (λ m. m + 1) (seat.keeps_made z); found = seat.found;
+            first = seat.first;
+            target = seat.target;
+            block = seat.block;
+            seen = seat.seen;
+            also = seat.also;
+            mine = seat.mine;
+            others = seat.others;
+            out = seat.out;
+            apart = seat.apart;
+            below = λ n own. omega (arith, seat.below n own);
+            keeps_made = λ z. ap (λ m. m + 1) (seat.keeps_made z);
+            found = seat.found;
           }
 
       made_is : v.made ≡ kept.made
@@ -336,7 +372,7 @@ module _ {B : Type 0} where
       -- what both have seen is a beginning of the history, the longer of the two
       longer_is : (b : Bool) → nat_lt (length v.seen) (length w.seen) ≡ b
           → IsPrefix (cond b w.seen v.seen) kept.history × IsPrefix (cond b v.seen w.seen) kept.history
-            × IsPrefix v.seen (cond b w.seen v.seen) × IsPrefix w.seen (cond b w.seen v.seen)
+          × IsPrefix v.seen (cond b w.seen v.seen) × IsPrefix w.seen (cond b w.seen v.seen)
       longer_is true e =
           (seat_b.seen, seat_a.seen, prefix_shorter v.seen w.seen kept.history seat_a.seen seat_b.seen (omega (arith, ltb-true (length v.seen) (length w.seen) e)), prefix_self w.seen)
       longer_is false e =
@@ -440,9 +476,10 @@ module _ {B : Type 0} where
       }
 
       stayed : (j : ℕ) (u : View B) → get_elem? s.views j ≡ some u → u.holds ≡ true → (j ≡ id → ⊥) × (j ≡ other → ⊥)
-      stayed j u at holds =
-          (λ e. false≢true (sym free ∙ (ap (λ (x : View B). x.holds) (some-injective v u (sym there ∙ (ap (get_elem? s.views) (sym e) ∙ at))) ∙ holds)),
-           λ e. false≢true (sym free_w ∙ (ap (λ (x : View B). x.holds) (some-injective w u (sym there_w ∙ (ap (get_elem? s.views) (sym e) ∙ at))) ∙ holds)))
+      stayed j u at holds = (
+        λ e. false≢true (sym free ∙ (ap (λ (x : View B). x.holds) (some-injective v u (sym there ∙ (ap (get_elem? s.views) (sym e) ∙ at))) ∙ holds)),
+        λ e. false≢true (sym free_w ∙ (ap (λ (x : View B). x.holds) (some-injective w u (sym there_w ∙ (ap (get_elem? s.views) (sym e) ∙ at))) ∙ holds)),
+      )
 
       joined_book : (out : Bool) → MatchBool out (IsOut s) (IsHome stands label k kept.history s)
           → MatchBool out (IsOut (record { words = s.words; homes = s.homes; views = set (set s.views id (taken_in v w)) other spent })) (IsHome stands label k kept.history (record { words = s.words; homes = s.homes; views = set (set s.views id (taken_in v w)) other spent }))

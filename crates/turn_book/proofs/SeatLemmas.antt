@@ -77,7 +77,7 @@ module _ {B : Type 0} where
     out = λ first count o.
         let r = range first count in
         let all : has_range (deposits_of h) r ≡ (has_range (deposits_of v.seen) r || has_range (deposits_of seat.seen.0) r) =
-            ap (λ l. has_range (deposits_of l) r) (sym seat.seen.1) ∙ (ap (λ l. has_range l r) (deposits-append v.seen seat.seen.0) ∙ has-append (deposits_of v.seen) (deposits_of seat.seen.0) r) in
+        ap (λ l. has_range (deposits_of l) r) (sym seat.seen.1) ∙ (ap (λ l. has_range l r) (deposits-append v.seen seat.seen.0) ∙ has-append (deposits_of v.seen) (deposits_of seat.seen.0) r) in
         (or_parts (has_range (deposits_of v.seen) r) (has_range (deposits_of seat.seen.0) r) (sym all ∙ seat.out first count o)).0;
     apart = seat.apart;
     below = λ zero_it n own. subst (λ m. n < m) (sym (seat.keeps_made zero_it)) (seat.below n own);
@@ -139,7 +139,6 @@ module _ {B : Type 0} where
       (seats : AreSeats k made h views) (i : ℕ) (v : View B) (there : get_elem? views i ≡ some v) (live : v.live ≡ true)
       (e : Entry) (caller : e.caller ≡ v.number) (follows : Follows k.target k.block h e)
       (own_out : (first count : ℕ) → e.call ≡ Deposit first count → has_range (out_of v.calls) (range first count) ≡ true) where
-
     seat_v : IsSeat k made h v
     seat_v = seats.each i v there live
 
@@ -199,10 +198,10 @@ module _ {B : Type 0} where
         let seat = seat_v in
         let longer = prefix_append h (e ∷ []) in
         let calls : (n : ℕ) → owns v n ≡ true → calls_of n (h ++ e ∷ []) ≡ calls_of n (v.calls ++ e ∷ []) = λ n own.
-            elim (cases_eq e.caller n) [
-              | inl is ↦ calls_push_own n h e is ∙ (ap (λ l. l ++ e ∷ []) (seat.mine n own).0 ∙ sym (calls_push_own n v.calls e is))
-              | inr off ↦ calls_push_other n h e off ∙ ((seat.mine n own).0 ∙ sym (calls_push_other n v.calls e off))
-            ] in
+        elim (cases_eq e.caller n) [
+          | inl is ↦ calls_push_own n h e is ∙ (ap (λ l. l ++ e ∷ []) (seat.mine n own).0 ∙ sym (calls_push_own n v.calls e is))
+          | inr off ↦ calls_push_other n h e off ∙ ((seat.mine n own).0 ∙ sym (calls_push_other n v.calls e off))
+        ] in
         record {
           first = seat.first;
           target = seat.target;
@@ -218,10 +217,10 @@ module _ {B : Type 0} where
               let given = or_cases (has_range (ranges_of v.calls) r) (has_range (range_in e.reply) r) (sym (ap (λ l. has_range l r) (ranges_push v.calls e) ∙ has-append (ranges_of v.calls) (range_in e.reply) r) ∙ parts.0) in
               let kept = or_parts (has_range (deposits_of v.calls) r) (has_range (deposit_in e.call) r) (sym (ap (λ l. has_range l r) (deposits_push v.calls e) ∙ has-append (deposits_of v.calls) (deposit_in e.call) r) ∙ parts.1) in
               let before : has_range (deposits_of h) r ≡ false =
-                  elim given [
-                    | inl old ↦ seat.out first count (out_from v.calls r old kept.0)
-                    | inr new ↦ fresh_range r new
-                  ] in
+              elim given [
+                | inl old ↦ seat.out first count (out_from v.calls r old kept.0)
+                | inr new ↦ fresh_range r new
+              ] in
               deposits_now r ∙ rw (before, kept.1) refl;
           apart = seat.apart;
           below = seat.below;

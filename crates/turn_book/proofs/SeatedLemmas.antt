@@ -20,7 +20,7 @@ use Rattle.turn_book.proofs.JoinLemmas.{one_small}
 use Rattle.ra_base.specs.declared.limits.TheConstants.{MOST_SAMPLES}
 use Rattle.campaign_core.proofs.MachineLaws.{machine_at, sound_history, sound_few}
 use Rattle.turn_book.proofs.WordLemmas.{word_same}
-use Rattle.turn_book.specs.Views.{takes_exchange, IsSound, KeepsFound, Sees, Makes, Looks, Takes, Deposits, TakesIn, owns, with_seen, with_hold, with_made, newcomer, taken_in, settled}
+use Rattle.turn_book.specs.Views.{takes_exchange, IsSameSeat, IsSound, KeepsFound, Sees, Makes, Looks, Takes, Deposits, TakesIn, owns, with_seen, with_hold, with_made, newcomer, taken_in, settled}
 use Rattle.turn_book.specs.Seated.{IsOf, view_of, opening_of, slots_of}
 
 module _ {B L : Type 0} (book : TurnBook B L) (s t : BookSeat B) (of : IsOf book s) where
@@ -51,8 +51,12 @@ module _ {B L : Type 0} (book : TurnBook B L) (s t : BookSeat B) (of : IsOf book
   of_sees g table slots turn sees =
       of_stays table slots turn
       (record {
-        live = ap (λ (v : View B). v.live) sees.view; first = ap (λ (v : View B). v.first) sees.view; target = ap (λ (v : View B). v.target) sees.view;
-        block = ap (λ (v : View B). v.block) sees.view; also = ap (λ (v : View B). v.also) sees.view; holds = ap (λ (v : View B). v.holds) sees.view;
+        live = ap (λ (v : View B). v.live) sees.view;
+        first = ap (λ (v : View B). v.first) sees.view;
+        target = ap (λ (v : View B). v.target) sees.view;
+        block = ap (λ (v : View B). v.block) sees.view;
+        also = ap (λ (v : View B). v.also) sees.view;
+        holds = ap (λ (v : View B). v.holds) sees.view;
       })
       sees.found sees.sound
 
@@ -60,8 +64,12 @@ module _ {B L : Type 0} (book : TurnBook B L) (s t : BookSeat B) (of : IsOf book
   of_makes call g table slots turn makes =
       of_stays table slots turn
       (record {
-        live = ap (λ (v : View B). v.live) makes.view; first = ap (λ (v : View B). v.first) makes.view; target = ap (λ (v : View B). v.target) makes.view;
-        block = ap (λ (v : View B). v.block) makes.view; also = ap (λ (v : View B). v.also) makes.view; holds = ap (λ (v : View B). v.holds) makes.view;
+        live = ap (λ (v : View B). v.live) makes.view;
+        first = ap (λ (v : View B). v.first) makes.view;
+        target = ap (λ (v : View B). v.target) makes.view;
+        block = ap (λ (v : View B). v.block) makes.view;
+        also = ap (λ (v : View B). v.also) makes.view;
+        holds = ap (λ (v : View B). v.holds) makes.view;
       })
       makes.found makes.sound
 
@@ -99,7 +107,7 @@ took_nothing stands label st m w found ne t = MatchBool-at_false _ (w ≡ m) (ne
 pub took_book : {B L : Type 0} (stands : B → List SampleRange → Type 0) (label : B → L) (st : Step (Option B)) (m w : Carrier B) (found : ℕ) → found ≡ st.first
     → Took stands label st m found w
     → (book : B) × (w.1 ≡ (0, Some book) ∷ m.1) × Takes m.0 w.0 × stands book (deposits_of w.0.seen) × ((first : B) → m.0.first ≡ Some first → label book ≡ label first)
-      × (found ≡ turn_word false (length (deposits_of w.0.seen)))
+    × (found ≡ turn_word false (length (deposits_of w.0.seen)))
 took_book stands label st m w found e t = MatchBool-at_true _ (w ≡ m) (eq-eqb found st.first e) t
 
 pub even_turn : (n : ℕ) → (deposits : ℕ) × (n - n % 2 ≡ turn_word false deposits)
@@ -213,3 +221,37 @@ of_taken_in {B} book s t other of free table slots d =
 -- the slot of the book that was just taken
 pub taken_slot : {B : Type 0} (old new : List (ℕ × Option B)) (book : B) → new ≡ (0, Some book) ∷ old → (x : Option B) × (new ≡ (0, x) ∷ rest new)
 taken_slot old new book e = (Some book, e ∙ ap (λ l. (0, Some book) ∷ l) (sym (ap rest e)))
+
+-- ---- what stays of a seat at steps of the gate
+
+module _ {B : Type 0} where
+  pub same_sees : (v : View B) (g : Gate) (w : View B) → Sees v g w → IsSameSeat v w
+  same_sees v g w s = record {
+    number = ap (λ (x : View B). x.number) s.view;
+    made = ap (λ (x : View B). x.made) s.view;
+    joined = ap (λ (x : View B). x.joined) s.view;
+    holds = ap (λ (x : View B). x.holds) s.view;
+    target = ap (λ (x : View B). x.target) s.view;
+    block = ap (λ (x : View B). x.block) s.view;
+  }
+
+  pub same_makes : (v : View B) (call : Call) (g : Gate) (w : View B) → Makes v call g w → IsSameSeat v w
+  same_makes v call g w s = record {
+    number = ap (λ (x : View B). x.number) s.view;
+    made = ap (λ (x : View B). x.made) s.view;
+    joined = ap (λ (x : View B). x.joined) s.view;
+    holds = ap (λ (x : View B). x.holds) s.view;
+    target = ap (λ (x : View B). x.target) s.view;
+    block = ap (λ (x : View B). x.block) s.view;
+  }
+
+  same_either : (b : Bool) (v : View B) (call : Call) (g : Gate) (w : View B) → MatchBool b (Sees v g w) (Makes v call g w) → IsSameSeat v w
+  same_either true v call g w s = same_sees v g w s
+  same_either false v call g w s = same_makes v call g w s
+
+  pub same_looks : (v : View B) (call : Call) (g : Gate) (w : View B) → Looks v call g w → IsSameSeat v w
+  same_looks v call g w s = same_either (takes_exchange (reply_of v.block g [] call)) v call g w s
+
+  pub same_exchanged : (b : Bool) (v : View B) (call : Call) (g : Gate) (w : View B) → MatchBool b (Makes v call g w) (Sees v g w) → IsSameSeat v w
+  same_exchanged true v call g w s = same_makes v call g w s
+  same_exchanged false v call g w s = same_sees v g w s

@@ -85,10 +85,10 @@ module _ {B : Type 0} where
       → HoldsAlone views holder → HoldsAlone (set views i w) holder
   alone_set views i holder v w there h l alone =
       let others : (j : ℕ) (u : View B) → get_elem? (set views i w) j ≡ some u → u.live ≡ true → u.holds ≡ true → j ≡ holder = λ j u at live holds.
-          elim (at_set views i j w u at) [
-            | inl here ↦ here.0 ∙ alone.alone i v there (sym l ∙ (ap (λ (x : View B). x.live) here.1 ∙ live)) (sym h ∙ (ap (λ (x : View B). x.holds) here.1 ∙ holds))
-            | inr away ↦ alone.alone j u away.1 live holds
-          ] in
+      elim (at_set views i j w u at) [
+        | inl here ↦ here.0 ∙ alone.alone i v there (sym l ∙ (ap (λ (x : View B). x.live) here.1 ∙ live)) (sym h ∙ (ap (λ (x : View B). x.holds) here.1 ∙ holds))
+        | inr away ↦ alone.alone j u away.1 live holds
+      ] in
       elim (cases_eq holder i) [
         | inl is ↦
             let same : alone.view ≡ v = some-injective alone.view v (sym alone.there ∙ (ap (get_elem? views) is ∙ there)) in
@@ -150,12 +150,11 @@ module _ {B : Type 0} where
       -- the seat sees the whole history
       pub sees_kept : (word : ℕ) → word ≡ gate_word (gate_of k.target kept.history)
           → IsKept stands label k (record { words = set s.words 0 word; homes = s.homes; views = set s.views id (with_seen v kept.history) })
-            × Sees v (gate_of k.target kept.history) (with_seen v kept.history)
+          × Sees v (gate_of k.target kept.history) (with_seen v kept.history)
       sees_kept word is =
           let seat = kept.seats.each id v there live in
           let w = with_seen v kept.history in
-          let own : IsSeat k kept.made kept.history w = seen_seat k kept.made kept.history v v.holds seat in
-          (
+          let own : IsSeat k kept.made kept.history w = seen_seat k kept.made kept.history v v.holds seat in (
             record {
               history = kept.history;
               made = kept.made;
@@ -181,8 +180,8 @@ module _ {B : Type 0} where
       pub makes_kept : (call : Call) (word : ℕ) → deposit_in call ≡ [] → may_come kept.history call ≡ true
           → word ≡ gate_word (gate_after (gate_of k.target kept.history) call (reply_of v.block (gate_of k.target kept.history) (deposits_of kept.history) call))
           → let e = entry v.number call (reply_of v.block (gate_of k.target kept.history) (deposits_of kept.history) call) in
-            IsKept stands label k (record { words = set s.words 0 word; homes = s.homes; views = set s.views id (with_call v kept.history e) })
-            × Makes v call (gate_of k.target kept.history) (with_call v kept.history e)
+          IsKept stands label k (record { words = set s.words 0 word; homes = s.homes; views = set s.views id (with_call v kept.history e) })
+          × Makes v call (gate_of k.target kept.history) (with_call v kept.history e)
       makes_kept call word no_deposit may is =
           let seat = kept.seats.each id v there live in
           let reply = reply_of v.block (gate_of k.target kept.history) (deposits_of kept.history) call in
@@ -195,8 +194,7 @@ module _ {B : Type 0} where
           let legal = legal_now k kept.made kept.history s.views kept.target kept.block kept.legal kept.seats id v there live e refl follows no_out in
           let unmade = unmade_push k kept.made kept.history s.views kept.target kept.block kept.legal kept.seats id v there live e refl follows no_out kept.unmade in
           let deposits : deposits_of (kept.history ++ e ∷ []) ≡ deposits_of kept.history = deposits_push kept.history e ∙ (ap (λ l. deposits_of kept.history ++ l) no_deposit ∙ append-nil (deposits_of kept.history)) in
-          let same_reply : (l : List Entry) → l ≡ kept.history → entry v.number call (reply_of v.block (gate_of k.target kept.history) (deposits_of l) call) ≡ e = λ l q. ap (λ l. entry v.number call (reply_of v.block (gate_of k.target kept.history) (deposits_of l) call)) q in
-          (
+          let same_reply : (l : List Entry) → l ≡ kept.history → entry v.number call (reply_of v.block (gate_of k.target kept.history) (deposits_of l) call) ≡ e = λ l q. ap (λ l. entry v.number call (reply_of v.block (gate_of k.target kept.history) (deposits_of l) call)) q in (
             record {
               history = kept.history ++ e ∷ [];
               made = kept.made;
@@ -296,9 +294,9 @@ module _ {B : Type 0} where
               let no_deposit : deposit_in call ≡ [] = between_cases old new (λ call. deposit_in call ≡ []) refl (λ more. refl) in
               let may : may_come kept.history call ≡ true = between_cases old new (λ call. may_come kept.history call ≡ true) refl (λ more. refl) in
               let replies : reply_of v.block old [] call ≡ reply_of v.block g (deposits_of kept.history) call =
-                  ap (λ x. reply_of v.block x [] call) same ∙ between_cases old new (λ call. reply_of v.block g [] call ≡ reply_of v.block g (deposits_of kept.history) call) refl (λ more. refl) in
+              ap (λ x. reply_of v.block x [] call) same ∙ between_cases old new (λ call. reply_of v.block g [] call ≡ reply_of v.block g (deposits_of kept.history) call) refl (λ more. refl) in
               let word : gate_word new ≡ gate_word (gate_after g call reply) =
-                  ap gate_word (is.3 ∙ (ap (λ x. gate_after x call (reply_of v.block old [] call)) same ∙ ap (gate_after g call) replies)) in
+              ap gate_word (is.3 ∙ (ap (λ x. gate_after x call (reply_of v.block old [] call)) same ∙ ap (gate_after g call) replies)) in
               let made = makes_kept stands label k s kept id v there live call (gate_word new) no_deposit may word in
               let w = with_call v kept.history (entry v.number call reply) in
               rw hit (w, keeps, tt, made.0, (refl, (g, gate, found, made.1)))

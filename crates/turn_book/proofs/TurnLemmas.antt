@@ -97,19 +97,24 @@ module _ {B : Type 0} where
               let home = home_of kept.out kept.history s turn.0 kept.book in
               let w = with_hold true (with_seen v kept.history) in
               let now = taken_kept s kept there m found home in
-              rw (hit, even)
-              (w, takes 0 (Some home.book), ap (λ (l : List (Maybe (Option B))). get_elem? l 0) home.there, now, (
-                home.book,
-                refl,
-                record {
-                  between = seat.seen.0;
-                  view = ap (λ l. with_hold true (with_seen v l)) (sym seat.seen.1);
-                  sound = sound_seat k kept.made kept.history w kept.target kept.block kept.legal kept.unmade (seen_seat k kept.made kept.history v true seat);
-                },
-                home.is.stands,
-                (λ first is. home.is.labelled ∙ ap label (cc (seat.first, is))),
-                found ∙ ap (turn_word false) (sym turn.1),
-              ))
+              rw (hit, even) (
+                w,
+                takes 0 (Some home.book),
+                ap (λ (l : List (Maybe (Option B))). get_elem? l 0) home.there,
+                now,
+                (
+                  home.book,
+                  refl,
+                  record {
+                    between = seat.seen.0;
+                    view = ap (λ l. with_hold true (with_seen v l)) (sym seat.seen.1);
+                    sound = sound_seat k kept.made kept.history w kept.target kept.block kept.legal kept.unmade (seen_seat k kept.made kept.history v true seat);
+                  },
+                  home.is.stands,
+                  (λ first is. home.is.labelled ∙ ap label (cc (seat.first, is))),
+                  found ∙ ap (turn_word false) (sym turn.1),
+                ),
+              )
           | inr miss ↦
               let words : set s.words 1 n ≡ s.words = words_one s _ _ kept.words n ∙ (ap (λ m. gate_word (gate_of k.target kept.history) ∷ m ∷ []) (ap (λ (l : List ℕ). slice_index l 1) kept.words) ∙ sym kept.words) in
               let same = state_same s 1 n id v words (set_again s.views id v there) in
@@ -150,29 +155,44 @@ module _ {B : Type 0} where
         let held = held_is s kept there holds in
         let seat = held.seat in
         let w = with_hold false v in
-        let found = seat.found holds in
-        (w, gives, tt, record {
-          history = kept.history;
-          made = kept.made;
-          out = false;
-          target = kept.target;
-          block = kept.block;
-          legal = kept.legal;
-          words = words_one s _ _ kept.words turn ∙ ap (λ n. gate_word (gate_of k.target kept.history) ∷ n ∷ []) (at_turn ∙ ap (λ d. turn_word false (length d)) found);
-          book = record {
-            book = book;
-            there = ap (λ (l : List (Maybe (Option B))). set l 0 (some (Some book))) held.homes;
-            is = record { stands = subst (stands book) found is; labelled = labelled };
-            free = gone s kept there holds w refl;
-          };
-          seats = set_seats k kept.made kept.history kept.history s.views id v w kept.seats there live (λ n. refl)
-              (record {
-                first = seat.first; target = seat.target; block = seat.block; seen = seat.seen; also = seat.also; mine = seat.mine; others = seat.others; out = seat.out;
-                apart = seat.apart; below = seat.below; keeps_made = seat.keeps_made; found = λ q. absurd (false≢true q);
-              })
-              (λ j u at ne alive. kept.seats.each j u at alive);
-          unmade = kept.unmade;
-        }, (refl, refl))
+        let found = seat.found holds in (
+          w,
+          gives,
+          tt,
+          record {
+            history = kept.history;
+            made = kept.made;
+            out = false;
+            target = kept.target;
+            block = kept.block;
+            legal = kept.legal;
+            words = words_one s _ _ kept.words turn ∙ ap (λ n. gate_word (gate_of k.target kept.history) ∷ n ∷ []) (at_turn ∙ ap (λ d. turn_word false (length d)) found);
+            book = record {
+              book = book;
+              there = ap (λ (l : List (Maybe (Option B))). set l 0 (some (Some book))) held.homes;
+              is = record { stands = subst (stands book) found is; labelled = labelled };
+              free = gone s kept there holds w refl;
+            };
+            seats = set_seats k kept.made kept.history kept.history s.views id v w kept.seats there live (λ n. refl)
+                (record {
+                  first = seat.first;
+                  target = seat.target;
+                  block = seat.block;
+                  seen = seat.seen;
+                  also = seat.also;
+                  mine = seat.mine;
+                  others = seat.others;
+                  out = seat.out;
+                  apart = seat.apart;
+                  below = seat.below;
+                  keeps_made = seat.keeps_made;
+                  found = λ q. absurd (false≢true q);
+                })
+                (λ j u at ne alive. kept.seats.each j u at alive);
+            unmade = kept.unmade;
+          },
+          (refl, refl),
+        )
 
     pub put_allows : (st : Step (Option B)) (book : B) (more : List (ℕ × Option B)) (first count : ℕ) → v.holds ≡ true
         → has_range (out_of v.calls) (range first count) ≡ true
@@ -199,47 +219,54 @@ module _ {B : Type 0} where
         let unmade = unmade_push k kept.made h s.views kept.target kept.block kept.legal kept.seats id v there live e refl follows own_out kept.unmade in
         let deposits : deposits_of (h ++ e ∷ []) ≡ deposits_of h ++ r ∷ [] = deposits_push h e in
         let gate : gate_of k.target (h ++ e ∷ []) ≡ gate_of k.target h = gate_push k.target h e ∙ gate_still (gate_of k.target h) in
-        let number : length (deposits_of (h ++ e ∷ [])) ≡ length (deposits_of v.seen) + 1 = ap length deposits ∙ (length_push (deposits_of h) r ∙ ap (λ d. length d + 1) (sym found)) in
-        (w, gives, tt, record {
-          history = h ++ e ∷ [];
-          made = kept.made;
-          out = false;
-          target = kept.target;
-          block = kept.block;
-          legal = legal;
-          words =
-              words_one s _ _ kept.words st.first
-              ∙ (ap (λ n. gate_word (gate_of k.target h) ∷ n ∷ []) (at_turn ∙ ap (turn_word false) (sym number))
-              ∙ ap (λ g. gate_word g ∷ turn_word false (length (deposits_of (h ++ e ∷ []))) ∷ []) (sym gate));
-          book = record {
-            book = book;
-            there = ap (λ (l : List (Maybe (Option B))). set l 0 (some (Some book))) held.homes;
-            is = record { stands = subst (stands book) (ap (λ d. d ++ r ∷ []) found ∙ sym deposits) is; labelled = labelled };
-            free = gone s kept there holds w refl;
-          };
-          seats = pushed_seats k kept.made h s.views kept.target kept.block kept.legal kept.seats id v there live e refl follows own_out false none_else;
-          unmade = unmade;
-        }, (
-          refl,
-          λ f c number_is same_call same_turn.
-              let parts : (first ≡ f) × (count ≡ c) = (ap first_at same_call, ap count_at same_call) in
-              let counted : number_is ≡ length (deposits_of v.seen) + 1 = omega (arith, at_turn, same_turn) in
-              subst (λ (x : Call). Deposits v (first_at x) (count_at x) number_is w) same_call
-              (record {
-                between = seat.seen.0;
-                view = ap (λ l. with_hold false (with_call v l (entry v.number call (reply_of v.block (gate_of v.target l) (deposits_of l) call)))) (sym seat.seen.1);
-                found = ap deposits_of seat.seen.1 ∙ sym found;
-                counted = counted;
-                sound = sound_seat k kept.made (h ++ e ∷ []) w kept.target kept.block legal unmade own;
-              })
-        ))
+        let number : length (deposits_of (h ++ e ∷ [])) ≡ length (deposits_of v.seen) + 1 = ap length deposits ∙ (length_push (deposits_of h) r ∙ ap (λ d. length d + 1) (sym found)) in (
+          w,
+          gives,
+          tt,
+          record {
+            history = h ++ e ∷ [];
+            made = kept.made;
+            out = false;
+            target = kept.target;
+            block = kept.block;
+            legal = legal;
+            words =
+                words_one s _ _ kept.words st.first
+                ∙ (ap (λ n. gate_word (gate_of k.target h) ∷ n ∷ []) (at_turn ∙ ap (turn_word false) (sym number))
+                ∙ ap (λ g. gate_word g ∷ turn_word false (length (deposits_of (h ++ e ∷ []))) ∷ []) (sym gate));
+            book = record {
+              book = book;
+              there = ap (λ (l : List (Maybe (Option B))). set l 0 (some (Some book))) held.homes;
+              is = record { stands = subst (stands book) (ap (λ d. d ++ r ∷ []) found ∙ sym deposits) is; labelled = labelled };
+              free = gone s kept there holds w refl;
+            };
+            seats = pushed_seats k kept.made h s.views kept.target kept.block kept.legal kept.seats id v there live e refl follows own_out false none_else;
+            unmade = unmade;
+          },
+          (
+            refl,
+            λ f c number_is same_call same_turn.
+                let parts : (first ≡ f) × (count ≡ c) = (ap first_at same_call, ap count_at same_call) in
+                let counted : number_is ≡ length (deposits_of v.seen) + 1 = omega (arith, at_turn, same_turn) in
+                subst (λ (x : Call). Deposits v (first_at x) (count_at x) number_is w) same_call
+                (record {
+                  between = seat.seen.0;
+                  view = ap (λ l. with_hold false (with_call v l (entry v.number call (reply_of v.block (gate_of v.target l) (deposits_of l) call)))) (sym seat.seen.1);
+                  found = ap deposits_of seat.seen.1 ∙ sym found;
+                  counted = counted;
+                  sound = sound_seat k kept.made (h ++ e ∷ []) w kept.target kept.block legal unmade own;
+                }),
+          ),
+        )
       where
         range_at : Call → SampleRange
         range_at (Deposit f c) = range f c
         range_at x = range 0 0
+
         first_at : Call → ℕ
         first_at (Deposit f c) = f
         first_at x = 0
+
         count_at : Call → ℕ
         count_at (Deposit f c) = c
         count_at x = 0

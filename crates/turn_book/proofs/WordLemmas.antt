@@ -36,7 +36,7 @@ word_small g small = omega (arith, word_is g, small.0, small.1, bit_small g.seal
 pub word_same : (g h : Gate) → IsGate g → IsGate h → gate_word g ≡ gate_word h → g ≡ h
 word_same g h sg sh e =
     let first = low_same g.next h.next (g.target + 1048576 * (bit g.sealed + 2 * bit g.cancelled)) (h.target + 1048576 * (bit h.sealed + 2 * bit h.cancelled))
-        (omega (arith, sg.0, sg.1)) (omega (arith, sh.0, sh.1)) (sym (word_is g) ∙ (e ∙ word_is h)) in
+    (omega (arith, sg.0, sg.1)) (omega (arith, sh.0, sh.1)) (sym (word_is g) ∙ (e ∙ word_is h)) in
     let second = low_same g.target h.target (bit g.sealed + 2 * bit g.cancelled) (bit h.sealed + 2 * bit h.cancelled) (omega (arith, sg.1)) (omega (arith, sh.1)) first.1 in
     let s : bit g.sealed ≡ bit h.sealed = omega (arith, second.1, bit_small g.sealed, bit_small h.sealed) in
     let c : bit g.cancelled ≡ bit h.cancelled = omega (arith, second.1, bit_small g.sealed, bit_small h.sealed) in

@@ -76,8 +76,8 @@ module _ {B : Type 0} where
       pub is : IsBook k (deposits_of h) book
       pub free : NoneHolds s.views
 
-    -- there is one legal history; the words tell its gate, its number of deposits and where the book is; each seat
-    -- fits it; and callers that weren't made have no entry
+    -- there is one legal history; the words tell its gate, its number of deposits and where the book is; each
+    -- seat fits it; and callers that weren't made have no entry
     pub record IsKept (k : Opening B) (s : State (Option B) (View B)) : Type 0 where
       pub history : List Entry
       pub made : ℕ
@@ -85,7 +85,9 @@ module _ {B : Type 0} where
       pub target : (1 ≤ k.target) × (k.target ≤ MOST_SAMPLES)
       pub block : (1 ≤ k.block) × (k.block ≤ MOST_BLOCK)
       pub legal : IsLegal k.target k.block history
-      pub words : s.words ≡ gate_word (gate_of k.target history) ∷ turn_word out (length (deposits_of history)) ∷ []
+      pub words :
+          s.words
+          ≡ gate_word (gate_of k.target history) ∷ turn_word out (length (deposits_of history)) ∷ []
       pub book : MatchBool out (IsOut s) (IsHome k history s)
       pub seats : AreSeats k made history s.views
       pub unmade : (n : ℕ) → made ≤ n → calls_of n history ≡ []

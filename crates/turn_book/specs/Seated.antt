@@ -40,5 +40,7 @@ module _ {B : Type 0} where
     pub block : (view_of seat).block ≡ (opening_of book).block
     pub also : (view_of seat).also ≡ []
     pub slots : seat.seat.me.1 ≡ slots_of (view_of seat).holds
-    pub turn : (view_of seat).holds ≡ true → seat.turn ≡ turn_word false (length (deposits_of (view_of seat).seen))
+    pub turn :
+        (view_of seat).holds ≡ true
+        → seat.turn ≡ turn_word false (length (deposits_of (view_of seat).seen))
     pub sound : IsSound (view_of seat)

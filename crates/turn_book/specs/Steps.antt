@@ -30,12 +30,13 @@ module _ {B : Type 0} where
   abbrev pub Marks : Call → Step (Option B) → Carrier B → ℕ → Carrier B → Type 0
   Marks call st m word w = (w.1 ≡ m.1) × Found word (λ g. Makes m.0 call g w.0)
 
-  abbrev pub Took : {L : Type 0} → (B → List SampleRange → Type 0) → (B → L) → Step (Option B) → Carrier B → ℕ → Carrier B → Type 0
+  abbrev pub Took : {L : Type 0} → (B → List SampleRange → Type 0) → (B → L)
+      → Step (Option B) → Carrier B → ℕ → Carrier B → Type 0
   Took keeps label st m word w =
       MatchBool (word == st.first)
       ((book : B) × (w.1 ≡ (0, Some book) ∷ m.1) × Takes m.0 w.0 × keeps book (deposits_of w.0.seen)
-        × ((first : B) → m.0.first ≡ Some first → label book ≡ label first)
-        × (word ≡ turn_word false (length (deposits_of w.0.seen))))
+      × ((first : B) → m.0.first ≡ Some first → label book ≡ label first)
+      × (word ≡ turn_word false (length (deposits_of w.0.seen))))
       (w ≡ m)
 
   abbrev pub Left : Step (Option B) → Carrier B → ℕ → Carrier B → Type 0
@@ -44,7 +45,8 @@ module _ {B : Type 0} where
   abbrev pub PutBack : Call → Step (Option B) → Carrier B → ℕ → Carrier B → Type 0
   PutBack call st m word w =
       (w.1 ≡ rest m.1)
-      × ((first count number : ℕ) → call ≡ Deposit first count → st.first ≡ turn_word false number → Deposits m.0 first count number w.0)
+      × ((first count number : ℕ) → call ≡ Deposit first count → st.first ≡ turn_word false number
+      → Deposits m.0 first count number w.0)
 
   abbrev pub Settled : Step (Option B) → Carrier B → ℕ → Carrier B → Type 0
   Settled st m word w = (w ≡ (settled m.0, m.1)) × IsPrefix m.0.also m.0.seen × IsSound w.0

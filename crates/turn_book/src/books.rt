@@ -4,10 +4,12 @@ ghost use Rattle.campaign_core.specs.declared.call.Call.{Call};
 ghost use Rattle.campaign_core.specs.Ranges.{range, has_range};
 ghost use Rattle.campaign_core.specs.History.{gate_of, deposits_of, out_of};
 ghost use Rattle.turn_book.specs.Words.{IsTurn};
-ghost use Rattle.turn_book.specs.Views.{call_between, newcomer, opening_view, with_hold, with_made, Deposits, IsExchange, Looks, Makes, MayLook, Sees, Takes, TakesIn};
+ghost use Rattle.turn_book.specs.Views.{call_between, newcomer, opening_view, with_hold, with_made, Deposits, IsExchange, IsSameSeat, Looks, Makes, MayLook, Sees, Takes, TakesIn};
 ghost use Rattle.turn_book.specs.Seated.{IsOf, held_book, opening_of, view_of};
 
-use crate::rule::{Asked, Cancels, Exchange, Leave, Look, Mark, Newcomer, Put, Seals, Settle, Take, TakeIn};
+use crate::rule::{
+    Asked, Cancels, Exchange, Leave, Look, Mark, Newcomer, Put, Seals, Settle, Take, TakeIn,
+};
 use crate::seats::{BookSeat, Held, TurnBook};
 use crate::view::Opening;
 use crate::words::{CANCELLED, SEALED, gate_from, word_of};
@@ -30,8 +32,8 @@ pub struct Closed<B> {
 }
 
 impl<B: Booked> TurnBook<B> {
-    /// A book that stands for no range, for a campaign of `target` samples in blocks of `block`, and the opening
-    /// seat. Without memory the book comes back.
+    /// A book that stands for no range, for a campaign of `target` samples in blocks of `block`, and the
+    /// opening seat. Without memory the book comes back.
     pub fn open(
         alloc: Global,
         book: B,
@@ -73,13 +75,14 @@ impl<B: Booked> TurnBook<B> {
         }
     }
 
-    /// Loads the gate. A call that the gate decides is made there; before a claim that would give a range, or an
-    /// extension that would raise the target, the seat sees that gate alone.
+    /// Loads the gate. A call that the gate decides is made there; before a claim that would give a range, or
+    /// an extension that would raise the target, the seat sees that gate alone.
     pub fn look(&self, seat: &mut BookSeat<B>, call: Call) -> Gate
         requires seat { IsOf self.now seat.old }
         requires call { MayLook (view_of seat.old) call }
         ensures seat { IsOf self.now seat.new }
         ensures looked { Looks (view_of seat.old) call result (view_of seat.new) }
+        ensures same { IsSameSeat (view_of seat.old) (view_of seat.new) }
     {
         self.look_at::<Brand>(seat, call)
     }
@@ -90,19 +93,22 @@ impl<B: Booked> TurnBook<B> {
         requires call { MayLook (view_of seat.old) call }
         ensures seat { IsOf self.now seat.new }
         ensures looked { Looks (view_of seat.old) call result (view_of seat.new) }
+        ensures same { IsSameSeat (view_of seat.old) (view_of seat.new) }
     {
         let word = self.table.shared.load::<Look<J>>(&mut seat.seat, 0);
         gate_from(word)
     }
 
-    /// Exchanges the gate, where it is the old one, for one that follows by a claim or an extension, which is then
-    /// made. The other gate comes back where another was found.
+    /// Exchanges the gate, where it is the old one, for one that follows by a claim or an extension, which is
+    /// then made. The other gate comes back where another was found.
     pub fn swap_gate(&self, seat: &mut BookSeat<B>, old: Gate, new: Gate) -> Result<(), Gate>
         requires seat { IsOf self.now seat.old }
         requires step { IsExchange (view_of seat.old).block old new }
         ensures seat { IsOf self.now seat.new }
         ensures made { OnOk result (Makes (view_of seat.old) (call_between old new) old (view_of seat.new)) }
-        ensures other { IfErr result (λ other. (other ≢ old) × Sees (view_of seat.old) other (view_of seat.new)) }
+        ensures other { IfErr result (λ other.
+            (other ≢ old) × Sees (view_of seat.old) other (view_of seat.new)) }
+        ensures same { IsSameSeat (view_of seat.old) (view_of seat.new) }
     {
         self.exchange_gate::<Brand>(seat, old, new)
     }
@@ -118,7 +124,9 @@ impl<B: Booked> TurnBook<B> {
         requires step { IsExchange (view_of seat.old).block old new }
         ensures seat { IsOf self.now seat.new }
         ensures made { OnOk result (Makes (view_of seat.old) (call_between old new) old (view_of seat.new)) }
-        ensures other { IfErr result (λ other. (other ≢ old) × Sees (view_of seat.old) other (view_of seat.new)) }
+        ensures other { IfErr result (λ other.
+            (other ≢ old) × Sees (view_of seat.old) other (view_of seat.new)) }
+        ensures same { IsSameSeat (view_of seat.old) (view_of seat.new) }
     {
         let expected = word_of(old);
         let next = word_of(new);
@@ -137,6 +145,7 @@ impl<B: Booked> TurnBook<B> {
         requires { IsOf self.now seat.old }
         ensures seat { IsOf self.now seat.new }
         ensures made { Makes (view_of seat.old) Call.Seal result (view_of seat.new) }
+        ensures same { IsSameSeat (view_of seat.old) (view_of seat.new) }
     {
         let word = self
             .table
@@ -150,6 +159,7 @@ impl<B: Booked> TurnBook<B> {
         requires { IsOf self.now seat.old }
         ensures seat { IsOf self.now seat.new }
         ensures made { Makes (view_of seat.old) Call.Cancel result (view_of seat.new) }
+        ensures same { IsSameSeat (view_of seat.old) (view_of seat.new) }
     {
         let word = self
             .table
@@ -188,7 +198,8 @@ impl<B: Booked> TurnBook<B> {
         ensures seat { IsOf self.now seat.new }
         ensures taken { OnOk result (Takes (view_of seat.old) (view_of seat.new)) }
         ensures book { IfOk result (λ held. B.keeps (held_book held) (deposits_of (view_of seat.new).seen)) }
-        ensures label { IfOk result (λ held. B.label (held_book held) ≡ B.label (opening_of self.now).book.value) }
+        ensures label { IfOk result (λ held.
+            B.label (held_book held) ≡ B.label (opening_of self.now).book.value) }
         ensures other { IfErr result (λ next. IsTurn next × (view_of seat.new ≡ view_of seat.old)) }
     {
         let found = self
@@ -220,8 +231,8 @@ impl<B: Booked> TurnBook<B> {
         self.table.shared.swap::<Leave>(&mut seat.seat, 1, turn);
     }
 
-    /// Brings the book home with one more deposit, of a range that is out at this seat, and answers the number of
-    /// deposits.
+    /// Brings the book home with one more deposit, of a range that is out at this seat, and answers the number
+    /// of deposits.
     pub fn deposit(&self, seat: &mut BookSeat<B>, held: Held<B>, first: u32, count: u32) -> u32
         requires seat { IsOf self.now seat.old }
         requires holds { (view_of seat.old).holds ≡ true }
@@ -264,16 +275,13 @@ impl<B: Booked> TurnBook<B> {
         requires seat { IsOf self.now seat.old }
         requires opening { (view_of seat.old).number ≡ 0 }
         requires free { (view_of seat.old).holds ≡ false }
-        requires room { (view_of seat.old).made < 4294967295 }
+        requires room { (view_of seat.old).made < u32.MAX }
         ensures seat { IsOf self.now seat.new }
         ensures other { IsOf self.now result }
         ensures made { view_of seat.new ≡ with_made (view_of seat.old) }
         ensures view { view_of result ≡ newcomer (view_of seat.old) }
     {
-        let other = self
-            .table
-            .shared
-            .split_seat::<Newcomer>(&mut seat.seat);
+        let other = self.table.shared.split_seat::<Newcomer>(&mut seat.seat);
         BookSeat {
             seat: other,
             turn: 0,

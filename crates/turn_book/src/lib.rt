@@ -13,3 +13,6 @@ mod words;
 pub use books::Closed;
 pub use seats::{BookSeat, Held, TurnBook};
 pub use view::{Opening, View};
+
+#[cfg(test)]
+mod tests;

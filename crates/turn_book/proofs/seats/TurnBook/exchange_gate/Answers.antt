@@ -11,8 +11,7 @@ pub compare_exchange-found-requires : goal.compare_exchange-found-requires
 compare_exchange-found-requires g c =
     let seat = c.args.seat.now in
     let slots = c.args.self.now.table.shared.table_id.slots in
-    rw (c.word_of-expected.ensures, c.word_of-next.ensures, c.requires.asked)
-    (
+    rw (c.word_of-expected.ensures, c.word_of-next.ensures, c.requires.asked) (
       c.requires.seat.table,
       omega (arith, c.args.self.now.sized.0),
       exchange_allows g.B.Booked.keeps g.B.Booked.label c.args.self.now.table.shared.key slots seat.seat.id seat.seat.me.0 seat.seat.me.1 c.requires.seat.live None c.args.old c.args.new c.requires.step,

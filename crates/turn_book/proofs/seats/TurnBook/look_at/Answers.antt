@@ -10,10 +10,9 @@ use Rattle.turn_book.proofs.seats.TurnBook.look_at.Goals as goal
 pub load-word-requires : goal.load-word-requires
 load-word-requires g c =
     let seat = c.args.seat.now in
-    let slots = c.args.self.now.table.shared.table_id.slots in
-    (
+    let slots = c.args.self.now.table.shared.table_id.slots in (
       c.requires.seat.table,
       omega (arith, c.args.self.now.sized.0),
       look_allows g.B.Booked.keeps g.B.Booked.label c.args.self.now.table.shared.key slots seat.seat.id seat.seat.me.0 seat.seat.me.1 c.requires.seat.live (step slots 0 0 0 none) g.J.Asked.call
-      (subst (MayLook (view_of seat)) c.requires.asked c.requires.call),
+          (subst (MayLook (view_of seat)) c.requires.asked c.requires.call),
     )

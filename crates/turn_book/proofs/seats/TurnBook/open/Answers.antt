@@ -8,10 +8,10 @@ use Rattle.turn_book.proofs.seats.TurnBook.open.Goals as goal
 pub new-requires : goal.new-requires
 new-requires g c =
     let slots : c.push_reserved.new.self.items ≡ Some c.of.result.value ∷ [] =
-        c.push_reserved.ensures.items ∙ (ap (λ l. l ++ Some c.args.book ∷ []) c.in-Ok.ensures.items ∙ ap (λ b. Some b ∷ []) (sym c.of.ensures)) in
+    c.push_reserved.ensures.items ∙ (ap (λ l. l ++ Some c.args.book ∷ []) c.in-Ok.ensures.items ∙ ap (λ b. Some b ∷ []) (sym c.of.ensures)) in
     rw slots
     (opened_kept g.B.Booked.keeps g.B.Booked.label (record { target = c.args.target; block = c.args.block; book = c.of.result }) c.requires.target c.requires.block
-      (subst (λ b. g.B.Booked.keeps b []) (sym c.of.ensures) c.requires.book) c.word_of-gate.result c.word_of-gate.ensures)
+    (subst (λ b. g.B.Booked.keeps b []) (sym c.of.ensures) c.requires.book) c.word_of-gate.result c.word_of-gate.ensures)
 
 pub returns-in-Ok-new-clause-seat : goal.returns-in-Ok-new-clause-seat
 returns-in-Ok-new-clause-seat g c =

@@ -25,12 +25,11 @@ swap-requires g c =
     let e = c.exchange.ensures in
     let turn = old.turn + 2 in
     let at_turn : turn ≡ turn_word false (length (deposits_of old.seat.me.0.seen) + 1) = omega (arith, c.requires.seat.turn c.requires.holds) in
-    let allows = put_allows g.B.Booked.keeps g.B.Booked.label key slots c.exchange.new.seat.id old.seat.me.0 c.requires.seat.live (step slots 1 turn 0 none) c.args.held.book (rest old.seat.me.1) c.args.first c.args.count c.requires.holds c.requires.out c.requires.book c.requires.label at_turn in
-    (
+    let allows = put_allows g.B.Booked.keeps g.B.Booked.label key slots c.exchange.new.seat.id old.seat.me.0 c.requires.seat.live (step slots 1 turn 0 none) c.args.held.book (rest old.seat.me.1) c.args.first c.args.count c.requires.holds c.requires.out c.requires.book c.requires.label at_turn in (
       e.0 ∙ c.requires.seat.table,
       omega (arith, c.args.self.now.sized.0),
       subst (λ m. Allows (IsKept g.B.Booked.keeps g.B.Booked.label key) slots c.exchange.new.seat.id m 1 (λ n. turn) (PutBack g.J.Asked.call (step slots 1 turn 0 none) m)) (sym e.3)
-      (subst (λ (call : Call). Allows (IsKept g.B.Booked.keeps g.B.Booked.label key) slots c.exchange.new.seat.id (old.seat.me.0, (0, Some c.args.held.book) ∷ rest old.seat.me.1) 1 (λ n. turn) (PutBack call (step slots 1 turn 0 none) (old.seat.me.0, (0, Some c.args.held.book) ∷ rest old.seat.me.1))) (sym c.requires.asked) allows),
+          (subst (λ (call : Call). Allows (IsKept g.B.Booked.keeps g.B.Booked.label key) slots c.exchange.new.seat.id (old.seat.me.0, (0, Some c.args.held.book) ∷ rest old.seat.me.1) 1 (λ n. turn) (PutBack call (step slots 1 turn 0 none) (old.seat.me.0, (0, Some c.args.held.book) ∷ rest old.seat.me.1))) (sym c.requires.asked) allows),
     )
 
 pub overflow_cast-result : goal.overflow_cast-result

@@ -5,8 +5,7 @@ use Rattle.turn_book.proofs.seats.TurnBook.split.Goals as goal
 
 pub split_seat-other-requires : goal.split_seat-other-requires
 split_seat-other-requires g c =
-    let seat = c.args.seat.now in
-    (
+    let seat = c.args.seat.now in (
       c.requires.seat.table,
       omega (arith, c.args.self.now.sized.0),
       split_allows g.B.Booked.keeps g.B.Booked.label c.args.self.now.table.shared.key seat.seat.id seat.seat.me.0 c.requires.seat.live c.requires.opening,

@@ -9,8 +9,7 @@ use Rattle.turn_book.proofs.seats.TurnBook.try_take.Goals as goal
 pub compare_exchange-found-requires : goal.compare_exchange-found-requires
 compare_exchange-found-requires g c =
     let seat = c.args.seat.now in
-    let slots = c.args.self.now.table.shared.table_id.slots in
-    (
+    let slots = c.args.self.now.table.shared.table_id.slots in (
       c.requires.seat.table,
       omega (arith, c.args.self.now.sized.0),
       take_allows g.B.Booked.keeps g.B.Booked.label c.args.self.now.table.shared.key slots seat.seat.id seat.seat.me.0 c.requires.seat.live seat.seat.me.1 c.args.turn c.requires.turn.0 c.requires.turn.1,
