@@ -1,16 +1,14 @@
 -- What is left at the end.
-use Rattle.std.proofs.Common.{◌≡◌, ℕ, zero, suc, ◌+◌, ◌-◌, ◌/◌, ◌<◌, ◌≤◌, Bool, true, false, List, [], ◌∷◌, ◌++◌, length, Option, Some, None, refl, ap, sym, ◌∙◌, subst, arith}
-use mathlib.Core.Option.{some, none, some-injective}
+use Rattle.std.proofs.Common.{◌≡◌, ℕ, ◌+◌, true, false, List, [], ◌∷◌, length, Option, Some, ap, sym, ◌∙◌, subst}
+use mathlib.Core.Option.{some, some-injective}
 use lib.ListN.{get_elem?}
-use Rattle.atomic_table.specs.Table.{State, Final, Seen}
-use Rattle.campaign_core.specs.declared.gate.Gate.{Gate}
+use Rattle.atomic_table.specs.Table.{Final, Seen}
 use Rattle.campaign_core.specs.declared.run.SampleRange.{SampleRange}
-use Rattle.campaign_core.specs.declared.call.Entry.{Entry}
 use Rattle.campaign_core.specs.History.{gate_of, deposits_of}
 use Rattle.turn_book.specs.declared.view.View.{View}
 use Rattle.turn_book.specs.declared.view.Opening.{Opening}
 use Rattle.turn_book.specs.Words.{gate_word, turn_word, IsGate}
-use Rattle.turn_book.specs.Kept.{IsKept, IsHome}
+use Rattle.turn_book.specs.Kept.{IsKept}
 use Rattle.turn_book.proofs.StepLemmas.{gate_small}
 use Rattle.turn_book.proofs.JoinLemmas.{whole, at_home}
 

@@ -1,32 +1,31 @@
 -- Seats are made and joined, and the opening seat that took in all others knows the whole history.
-use Rattle.std.proofs.Common.{◌≡◌, ◌≢◌, ℕ, zero, suc, ◌+◌, ◌-◌, ◌*◌, ◌^◌, ◌<◌, ◌≤◌, ◌==◌, ◌⊎◌, inl, inr, Bool, true, false, cond, ◌&&◌, ◌||◌, not, List, [], ◌∷◌, ◌++◌, length, set, slice_index, count_by, nat_lt, Option, Some, None, MatchBool, refl, ap, sym, ◌∙◌, subst, arith, append_assoc, length-append}
+use Rattle.std.proofs.Common.{◌≡◌, ℕ, zero, suc, ◌+◌, ◌<◌, ◌≤◌, ◌==◌, ◌⊎◌, inl, inr, Bool, true, false, cond, ◌||◌, List, [], ◌∷◌, ◌++◌, length, set, slice_index, nat_lt, Option, MatchBool, refl, ap, sym, ◌∙◌, subst, arith, length-append}
 use Rattle.std.specs.List.{list_any}
-use Rattle.std.proofs.lemmas.Bool.{cases_Bool, cases_eq, cases_lt, eqb-true, eq-eqb, ne_eqb, ltb-true, ltb-false, lt-ltb, or_cases, or_parts, or_left, or_right, or_from, false≢true, false_from_ne_true}
-use Rattle.std.proofs.lemmas.List.{append-nil, nil_from_length, length_push}
+use Rattle.std.proofs.lemmas.Bool.{cases_Bool, cases_eq, cases_lt, eqb-true, eq-eqb, ne_eqb, ltb-true, ltb-false, or_cases, or_parts, or_left, or_right, false≢true, false_from_ne_true}
+use Rattle.std.proofs.lemmas.List.{append-nil, length_push}
 use Rattle.std.proofs.lemmas.List.Folds.{list_any-append}
 use Rattle.std.proofs.lemmas.List.Sums.{sum_by-append, sum_by-cons}
 use mathlib.Core.List.{IsPrefix}
-use mathlib.Core.Option.{Option as Maybe, some, none, some-injective}
+use mathlib.Core.Option.{some, some-injective}
 use lib.ListN.{get_elem?}
-use Rattle.atomic_table.specs.Table.{State, Me, Step, Act, step, keeps, takes, gives, stepped, Valid, Allows, Splits, Joins, rest}
-use Rattle.atomic_table.proofs.Lists.{at_set, set_here, set_else, set_again, at_longer}
-use Rattle.ra_base.specs.declared.limits.TheConstants.{MOST_SAMPLES, MOST_BLOCK}
+use Rattle.atomic_table.specs.Table.{State, Step, keeps, Allows, Splits, Joins, rest}
+use Rattle.atomic_table.proofs.Lists.{at_set, set_else, at_longer}
 use Rattle.campaign_core.specs.declared.run.SampleRange.{SampleRange}
 use Rattle.campaign_core.specs.declared.call.Entry.{Entry}
 use Rattle.campaign_core.specs.Ranges.{range, has_range}
-use Rattle.campaign_core.specs.History.{gate_of, ranges_of, deposits_of, out_of, calls_of, IsLegal}
+use Rattle.campaign_core.specs.History.{ranges_of, deposits_of, out_of, calls_of}
 use Rattle.campaign_core.proofs.Totals.{sum_below, below-zero, below-suc, below-none, below-both, below-same, below-only}
 use Rattle.campaign_core.proofs.WithoutLaws.{has-nil, has-append, has-without}
-use Rattle.campaign_core.proofs.HistoryLaws.{ranges-nil, ranges-append, deposits-append, calls-nil, calls-append, prefix_self, prefix_trans}
-use Rattle.campaign_core.proofs.GivenLaws.{prefix_shorter, prefix_length, calls_push_own, calls_between, calls_none}
+use Rattle.campaign_core.proofs.HistoryLaws.{ranges-nil, ranges-append, deposits-append, calls-nil, calls-append, prefix_self}
+use Rattle.campaign_core.proofs.GivenLaws.{prefix_shorter, calls_push_own, calls_between, calls_none}
 use Rattle.turn_book.specs.declared.view.View.{View}
 use Rattle.turn_book.specs.declared.view.Opening.{Opening}
-use Rattle.turn_book.specs.Words.{gate_word, turn_word}
-use Rattle.turn_book.specs.Views.{how_often, numbers_of, owns, with_made, newcomer, taken_in, settled, spent, IsSound}
-use Rattle.turn_book.specs.Steps.{Carrier, Settled}
-use Rattle.turn_book.specs.Kept.{IsSeat, AreSeats, HoldsAlone, NoneHolds, IsOut, IsBook, IsHome, IsKept}
+use Rattle.turn_book.specs.Words.{turn_word}
+use Rattle.turn_book.specs.Views.{how_often, numbers_of, owns, with_made, newcomer, taken_in, settled, spent}
+use Rattle.turn_book.specs.Steps.{Settled}
+use Rattle.turn_book.specs.Kept.{IsSeat, AreSeats, IsOut, IsHome, IsKept}
 use Rattle.turn_book.proofs.SeatLemmas.{out_parts, out_from, owns_self, sound_seat, set_seats, apart_set}
-use Rattle.turn_book.proofs.StepLemmas.{in_range, none_set, alone_set}
+use Rattle.turn_book.proofs.StepLemmas.{none_set, alone_set}
 
 own_one : (x : Entry) → length (calls_of x.caller (x ∷ [])) ≡ 1
 own_one x = ap length (calls_push_own x.caller [] x refl) ∙ (length_push (calls_of x.caller []) x ∙ ap (λ (l : List Entry). length l + 1) (calls-nil x.caller))

@@ -1,26 +1,23 @@
 -- The rule at the start.
-use Rattle.std.proofs.Common.{◌≡◌, ℕ, zero, suc, ◌+◌, ◌-◌, ◌<◌, ◌≤◌, ◌==◌, Bool, true, false, cond, List, [], ◌∷◌, ◌++◌, length, count_by, Option, Some, None, inl, inr, refl, ap, sym, ◌∙◌, subst, arith}
+use Rattle.std.proofs.Common.{◌≡◌, ℕ, zero, suc, ◌≤◌, ◌==◌, true, false, List, [], ◌∷◌, length, Option, Some, inl, inr, refl, ap, sym, ◌∙◌, subst, arith}
 use Rattle.std.proofs.lemmas.Bool.{false≢true, or_cases, eqb-true}
-use mathlib.Core.List.{IsPrefix}
-use mathlib.Core.Option.{some, none, some-injective}
+use mathlib.Core.Option.{some, some-injective}
 use lib.ListN.{get_elem?}
-use Rattle.atomic_table.specs.Table.{State, opening}
+use Rattle.atomic_table.specs.Table.{opening}
 use Rattle.ra_base.specs.declared.limits.TheConstants.{MOST_SAMPLES, MOST_BLOCK}
-use Rattle.campaign_core.specs.declared.gate.Gate.{Gate}
 use Rattle.campaign_core.specs.declared.run.SampleRange.{SampleRange}
-use Rattle.campaign_core.specs.declared.call.Entry.{Entry}
 use Rattle.campaign_core.specs.Ranges.{range, has_range}
-use Rattle.campaign_core.specs.History.{gate_of, ranges_of, deposits_of, out_of, calls_of, IsLegal}
+use Rattle.campaign_core.specs.History.{gate_of, ranges_of, deposits_of, out_of}
 use Rattle.campaign_core.proofs.WithoutLaws.{has-nil, has-without}
-use Rattle.campaign_core.proofs.HistoryLaws.{gate-nil, ranges-nil, deposits-nil, calls-nil, legal-nil, prefix_self}
+use Rattle.campaign_core.proofs.HistoryLaws.{gate-nil, ranges-nil, deposits-nil, calls-nil, legal-nil}
 use Rattle.turn_book.specs.declared.view.View.{View}
 use Rattle.turn_book.specs.declared.view.Opening.{Opening}
 use Rattle.turn_book.specs.declared.seats.TurnBook.{TurnBook}
 use Rattle.turn_book.specs.declared.seats.BookSeat.{BookSeat}
 use Rattle.turn_book.specs.Seated.{IsOf, view_of, opening_of, slots_of}
 use Rattle.turn_book.specs.Words.{gate_word, turn_word}
-use Rattle.turn_book.specs.Views.{how_often, numbers_of, owns, opening_view, IsSound}
-use Rattle.turn_book.specs.Kept.{IsSeat, AreSeats, NoneHolds, IsBook, IsHome, IsKept}
+use Rattle.turn_book.specs.Views.{owns, opening_view, IsSound}
+use Rattle.turn_book.specs.Kept.{IsSeat, IsKept}
 use Rattle.turn_book.proofs.SeatLemmas.{sound_seat}
 use Rattle.turn_book.proofs.JoinLemmas.{one_small}
 

@@ -1,29 +1,25 @@
 -- Seats that fit a history, when the history grows or one of them sees more of it.
-use Rattle.std.proofs.Common.{◌≡◌, ◌≢◌, ℕ, zero, suc, ◌+◌, ◌-◌, ◌<◌, ◌≤◌, ◌==◌, ◌⊎◌, inl, inr, Bool, true, false, cond, ◌&&◌, ◌||◌, not, List, [], ◌∷◌, ◌++◌, length, set, count_by, nat_lt, Option, Some, None, refl, ap, sym, ◌∙◌, subst, arith, append_assoc}
-use Rattle.std.specs.List.{list_any}
-use Rattle.std.proofs.lemmas.Bool.{cases_Bool, cases_eq, eq-eqb, and_parts, or_cases, or_parts, or_left, or_right, or_from, not-true, false≢true, false_from_ne_true}
+use Rattle.std.proofs.Common.{◌≡◌, ℕ, ◌<◌, ◌≤◌, inl, inr, Bool, true, false, ◌||◌, not, List, [], ◌∷◌, ◌++◌, set, refl, ap, sym, ◌∙◌, subst, arith}
+use Rattle.std.proofs.lemmas.Bool.{cases_Bool, cases_eq, eq-eqb, and_parts, or_cases, or_parts, not-true, false≢true, false_from_ne_true}
 use Rattle.std.proofs.lemmas.List.{append-nil}
-use mathlib.Core.List.{IsPrefix}
-use mathlib.Core.Option.{some, some-injective}
+use mathlib.Core.Option.{some}
 use lib.ListN.{get_elem?}
-use Rattle.atomic_table.proofs.Lists.{at_set, set_here, set_else}
+use Rattle.atomic_table.proofs.Lists.{at_set}
 use Rattle.ra_base.specs.declared.limits.TheConstants.{MOST_SAMPLES, MOST_BLOCK}
-use Rattle.campaign_core.specs.declared.gate.Gate.{Gate}
 use Rattle.campaign_core.specs.declared.run.SampleRange.{SampleRange}
 use Rattle.campaign_core.specs.declared.call.Call.{Call}
 use Rattle.campaign_core.specs.declared.call.Call.TheVariants.{Claim, Extend, Seal, Cancel, Deposit}
 use Rattle.campaign_core.specs.declared.call.Call.TheVariants.{Progress as AskProgress, Interim as AskInterim}
-use Rattle.campaign_core.specs.declared.call.Reply.{Reply}
 use Rattle.campaign_core.specs.declared.call.Entry.{Entry}
-use Rattle.campaign_core.specs.Ranges.{range, is_same, has_range, without}
-use Rattle.campaign_core.specs.History.{entry, range_in, deposit_in, reply_of, gate_of, ranges_of, deposits_of, out_of, calls_of, may_come, Follows, IsLegal}
+use Rattle.campaign_core.specs.Ranges.{range, has_range, without}
+use Rattle.campaign_core.specs.History.{range_in, deposit_in, ranges_of, deposits_of, out_of, calls_of, Follows, IsLegal}
 use Rattle.campaign_core.proofs.WithoutLaws.{same_is, has-nil, has-one, has-append, has-without}
-use Rattle.campaign_core.proofs.HistoryLaws.{gate_push, ranges_push, deposits_push, deposits-append, ranges-nil, legal_push, legal_prefix, prefix_self, prefix_trans, prefix_append}
+use Rattle.campaign_core.proofs.HistoryLaws.{ranges_push, deposits_push, deposits-append, ranges-nil, legal_push, legal_prefix, prefix_self, prefix_trans, prefix_append}
 use Rattle.campaign_core.proofs.MachineLaws.{machine_at, sound_history, fresh}
 use Rattle.campaign_core.proofs.GivenLaws.{calls_push_own, calls_push_other, calls_none, one_owner, some_owner, owned_given, given_filled}
 use Rattle.turn_book.specs.declared.view.View.{View}
 use Rattle.turn_book.specs.declared.view.Opening.{Opening}
-use Rattle.turn_book.specs.Views.{how_often, numbers_of, owns, with_seen, with_call, with_hold, IsSound}
+use Rattle.turn_book.specs.Views.{owns, with_seen, with_call, with_hold, IsSound}
 use Rattle.turn_book.specs.Kept.{IsSeat, AreApart, AreSeats}
 
 -- the one range that a call deposits

@@ -1,5 +1,5 @@
 -- A seat stays one of its book at each step.
-use Rattle.std.proofs.Common.{◌≡◌, ℕ, zero, suc, ◌+◌, ◌-◌, ◌/◌, ◌%◌, ◌<◌, ◌≤◌, ◌==◌, Bool, true, false, cond, List, [], ◌∷◌, ◌++◌, length, nat_lt, Option, Some, None, MatchBool, inl, inr, refl, ap, sym, ◌∙◌, subst, arith}
+use Rattle.std.proofs.Common.{◌≡◌, ℕ, ◌-◌, ◌/◌, ◌%◌, ◌<◌, ◌≤◌, ◌==◌, Bool, true, false, cond, List, [], ◌∷◌, length, nat_lt, Option, Some, MatchBool, inl, inr, refl, ap, sym, ◌∙◌, subst, arith}
 use Rattle.std.proofs.lemmas.Bool.{false≢true, eq-eqb, eqb-true, ne_eqb, or_cases, ltb-true, ltb-false, MatchBool-at_true, MatchBool-at_false}
 use Rattle.campaign_core.specs.declared.gate.Gate.{Gate}
 use Rattle.campaign_core.specs.declared.run.SampleRange.{SampleRange}
@@ -20,8 +20,8 @@ use Rattle.turn_book.proofs.JoinLemmas.{one_small}
 use Rattle.ra_base.specs.declared.limits.TheConstants.{MOST_SAMPLES}
 use Rattle.campaign_core.proofs.MachineLaws.{machine_at, sound_history, sound_few}
 use Rattle.turn_book.proofs.WordLemmas.{word_same}
-use Rattle.turn_book.specs.Views.{takes_exchange, IsSameSeat, IsSound, KeepsFound, Sees, Makes, Looks, Takes, Deposits, TakesIn, owns, with_seen, with_hold, with_made, newcomer, taken_in, settled}
-use Rattle.turn_book.specs.Seated.{IsOf, view_of, opening_of, slots_of}
+use Rattle.turn_book.specs.Views.{takes_exchange, IsSameSeat, IsSound, KeepsFound, Sees, Makes, Looks, Takes, Deposits, TakesIn, owns, with_seen, newcomer, taken_in, settled}
+use Rattle.turn_book.specs.Seated.{IsOf, view_of, slots_of}
 
 module _ {B L : Type 0} (book : TurnBook B L) (s t : BookSeat B) (of : IsOf book s) where
   -- the parts of a view that steps of the gate leave

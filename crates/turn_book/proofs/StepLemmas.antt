@@ -1,34 +1,32 @@
 -- Each step on the gate keeps the rule, and tells its seat what it saw or made.
-use Rattle.std.proofs.Common.{◌≡◌, ◌≢◌, ℕ, zero, suc, ◌+◌, ◌-◌, ◌^◌, ◌<◌, ◌≤◌, ◌==◌, ◌⊎◌, inl, inr, Bool, true, false, cond, ◌&&◌, ◌||◌, not, List, [], ◌∷◌, ◌++◌, length, set, slice_index, bit_or, Option, Some, None, MatchBool, refl, ap, sym, ◌∙◌, subst, arith, append_assoc}
-use Rattle.std.proofs.lemmas.Bool.{cases_Bool, cases_eq, eq-eqb, ne_eqb, eqb-true, false≢true}
+use Rattle.std.proofs.Common.{◌≡◌, ℕ, zero, suc, ◌+◌, ◌-◌, ◌^◌, ◌<◌, ◌==◌, inl, inr, Bool, true, false, ◌||◌, List, [], ◌∷◌, ◌++◌, length, set, slice_index, bit_or, Option, MatchBool, refl, ap, sym, ◌∙◌, subst, arith}
+use Rattle.std.proofs.lemmas.Bool.{cases_Bool, cases_eq, eqb-true, false≢true}
 use Rattle.std.proofs.lemmas.List.{append-nil}
 use mathlib.Core.List.{IsPrefix}
 use mathlib.Core.Option.{some, none, some-injective}
 use lib.ListN.{get_elem?}
 use prog.Atomic.{either}
-use Rattle.atomic_table.specs.Table.{State, Me, Step, Act, step, keeps, takes, gives, stepped, Valid, Allows, rest}
-use Rattle.atomic_table.proofs.Lists.{at_set, set_here, set_else, exchanged}
-use Rattle.ra_base.specs.declared.limits.TheConstants.{MOST_SAMPLES, MOST_BLOCK}
+use Rattle.atomic_table.specs.Table.{State, Step, keeps, Allows}
+use Rattle.atomic_table.proofs.Lists.{at_set, set_here, set_else}
 use Rattle.campaign_core.specs.declared.gate.Gate.{Gate}
 use Rattle.campaign_core.specs.declared.run.SampleRange.{SampleRange}
 use Rattle.campaign_core.specs.declared.call.Call.{Call}
 use Rattle.campaign_core.specs.declared.call.Call.TheVariants.{Claim, Extend, Seal, Cancel, Deposit}
 use Rattle.campaign_core.specs.declared.call.Call.TheVariants.{Progress as AskProgress, Interim as AskInterim}
-use Rattle.campaign_core.specs.declared.call.Reply.{Reply}
 use Rattle.campaign_core.specs.declared.call.Reply.TheVariants.{Marked}
 use Rattle.campaign_core.specs.declared.call.Entry.{Entry}
 use Rattle.campaign_core.specs.Ranges.{range, has_range}
-use Rattle.campaign_core.specs.History.{entry, deposit_in, claim_reply, extend_reply, reply_of, gate_of, deposits_of, out_of, calls_of, may_come, Follows, IsLegal}
+use Rattle.campaign_core.specs.History.{entry, deposit_in, claim_reply, extend_reply, reply_of, gate_of, deposits_of, out_of, may_come, Follows}
 use Rattle.campaign_core.specs.Machine.{gate_after}
 use Rattle.campaign_core.proofs.HistoryLaws.{gate_push, deposits_push}
-use Rattle.campaign_core.proofs.MachineLaws.{machine_at, sound_history, claim_cases, extend_cases}
+use Rattle.campaign_core.proofs.MachineLaws.{sound_history, claim_cases, extend_cases}
 use Rattle.turn_book.specs.declared.view.View.{View}
 use Rattle.turn_book.specs.declared.view.Opening.{Opening}
-use Rattle.turn_book.specs.Words.{bit, gate_word, turn_word, IsGate}
-use Rattle.turn_book.specs.Views.{takes_exchange, call_between, IsExchange, owns, with_seen, with_call, with_hold, IsSound, Sees, Makes, Looks, MayLook, KeepsFound}
-use Rattle.turn_book.specs.Steps.{Carrier, Found, Looked, Exchanged, Marks}
-use Rattle.turn_book.specs.Kept.{IsSeat, AreSeats, HoldsAlone, NoneHolds, IsOut, IsBook, IsHome, IsKept}
-use Rattle.turn_book.proofs.WordLemmas.{word_is, word_same, word_sealed, word_cancelled}
+use Rattle.turn_book.specs.Words.{gate_word, turn_word, IsGate}
+use Rattle.turn_book.specs.Views.{takes_exchange, call_between, IsExchange, with_seen, with_call, Sees, Makes, MayLook}
+use Rattle.turn_book.specs.Steps.{Looked, Exchanged, Marks}
+use Rattle.turn_book.specs.Kept.{IsSeat, HoldsAlone, NoneHolds, IsOut, IsBook, IsHome, IsKept}
+use Rattle.turn_book.proofs.WordLemmas.{word_same, word_sealed, word_cancelled}
 use Rattle.turn_book.proofs.SeatLemmas.{sound_seat, set_seats, seen_seat, unmade_push, own_seat, pushed_seats, legal_now}
 
 pub in_range : {A : Type 0} (xs : List A) (i : ℕ) (x : A) → get_elem? xs i ≡ some x → i < length xs

@@ -1,31 +1,25 @@
 -- Each step on the turn keeps the rule: the book is taken, and comes home with a deposit or without.
-use Rattle.std.proofs.Common.{◌≡◌, ◌≢◌, ℕ, zero, suc, ◌+◌, ◌-◌, ◌*◌, ◌^◌, ◌<◌, ◌≤◌, ◌==◌, ◌⊎◌, inl, inr, Bool, true, false, cond, ◌&&◌, ◌||◌, not, List, [], ◌∷◌, ◌++◌, length, set, slice_index, Option, Some, None, MatchBool, refl, ap, sym, ◌∙◌, subst, arith, append_assoc}
-use Rattle.std.proofs.lemmas.Bool.{cases_Bool, cases_eq, eqb-true, false≢true}
-use Rattle.std.proofs.lemmas.List.{append-nil, length_push}
-use mathlib.Core.List.{IsPrefix}
-use mathlib.Core.Option.{Option as Maybe, some, none, some-injective}
+use Rattle.std.proofs.Common.{◌≡◌, ℕ, ◌+◌, ◌==◌, inl, inr, Bool, true, false, List, [], ◌∷◌, ◌++◌, length, set, slice_index, Option, Some, MatchBool, refl, ap, sym, ◌∙◌, subst, arith}
+use Rattle.std.proofs.lemmas.Bool.{cases_Bool, eqb-true, false≢true}
+use Rattle.std.proofs.lemmas.List.{length_push}
+use mathlib.Core.Option.{Option as Maybe, some, none}
 use lib.ListN.{get_elem?}
 use prog.Atomic.{either}
-use Rattle.atomic_table.specs.Table.{State, Me, Step, Act, step, keeps, takes, gives, stepped, Valid, Allows, rest}
-use Rattle.atomic_table.proofs.Lists.{at_set, set_here, set_else, set_again}
-use Rattle.ra_base.specs.declared.limits.TheConstants.{MOST_SAMPLES, MOST_BLOCK}
-use Rattle.campaign_core.specs.declared.gate.Gate.{Gate}
+use Rattle.atomic_table.specs.Table.{State, Step, keeps, takes, gives, Allows}
+use Rattle.atomic_table.proofs.Lists.{at_set, set_here, set_again}
 use Rattle.campaign_core.specs.declared.run.SampleRange.{SampleRange}
 use Rattle.campaign_core.specs.declared.call.Call.{Call}
 use Rattle.campaign_core.specs.declared.call.Call.TheVariants.{Deposit}
-use Rattle.campaign_core.specs.declared.call.Reply.{Reply}
-use Rattle.campaign_core.specs.declared.call.Reply.TheVariants.{Deposited}
 use Rattle.campaign_core.specs.declared.call.Entry.{Entry}
 use Rattle.campaign_core.specs.Ranges.{range, has_range}
-use Rattle.campaign_core.specs.History.{entry, deposit_in, reply_of, gate_of, ranges_of, deposits_of, out_of, calls_of, may_come, Follows, IsLegal}
-use Rattle.campaign_core.specs.Machine.{gate_after}
+use Rattle.campaign_core.specs.History.{entry, deposit_in, reply_of, gate_of, deposits_of, out_of, may_come, Follows}
 use Rattle.campaign_core.proofs.HistoryLaws.{gate_push, deposits_push}
 use Rattle.turn_book.specs.declared.view.View.{View}
 use Rattle.turn_book.specs.declared.view.Opening.{Opening}
-use Rattle.turn_book.specs.Words.{bit, gate_word, turn_word, IsGate}
-use Rattle.turn_book.specs.Views.{owns, with_seen, with_call, with_hold, IsSound, Takes, Deposits}
-use Rattle.turn_book.specs.Steps.{Carrier, Took, Left, PutBack}
-use Rattle.turn_book.specs.Kept.{IsSeat, AreSeats, HoldsAlone, NoneHolds, IsOut, IsBook, IsHome, IsKept}
+use Rattle.turn_book.specs.Words.{gate_word, turn_word}
+use Rattle.turn_book.specs.Views.{with_seen, with_call, with_hold, Deposits}
+use Rattle.turn_book.specs.Steps.{Took, Left, PutBack}
+use Rattle.turn_book.specs.Kept.{IsSeat, NoneHolds, IsOut, IsHome, IsKept}
 use Rattle.turn_book.proofs.WordLemmas.{turn_same}
 use Rattle.turn_book.proofs.SeatLemmas.{out_parts, seat_owner, sound_seat, set_seats, seen_seat, unmade_push, own_seat, pushed_seats, legal_now}
 use Rattle.turn_book.proofs.StepLemmas.{in_range, gate_still}

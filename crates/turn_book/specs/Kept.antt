@@ -1,20 +1,18 @@
 -- What the words, the book and all seats keep between any two steps.
-use Rattle.std.specs.Prelude.{◌≡◌, ℕ, ◌+◌, ◌<◌, ◌≤◌, Bool, true, false, List, [], ◌∷◌, ◌++◌, length, Option, Some, None, MatchBool}
+use Rattle.std.specs.Prelude.{◌≡◌, ℕ, ◌<◌, ◌≤◌, Bool, true, false, List, [], ◌∷◌, length, Option, Some, MatchBool}
 use mathlib.Core.List.{IsPrefix}
 use mathlib.Core.Option.{some, none}
 use lib.ListN.{get_elem?}
-use Rattle.atomic_table.specs.Table.{State, Me, Step}
+use Rattle.atomic_table.specs.Table.{State}
 use Rattle.ra_base.specs.declared.limits.TheConstants.{MOST_SAMPLES, MOST_BLOCK}
-use Rattle.campaign_core.specs.declared.gate.Gate.{Gate}
 use Rattle.campaign_core.specs.declared.run.SampleRange.{SampleRange}
-use Rattle.campaign_core.specs.declared.call.Call.{Call}
 use Rattle.campaign_core.specs.declared.call.Entry.{Entry}
 use Rattle.campaign_core.specs.Ranges.{range, has_range}
 use Rattle.campaign_core.specs.History.{gate_of, deposits_of, out_of, calls_of, IsLegal}
 use Rattle.turn_book.specs.declared.view.View.{View}
 use Rattle.turn_book.specs.declared.view.Opening.{Opening}
-use Rattle.turn_book.specs.Words.{gate_word, turn_word, IsGate}
-use Rattle.turn_book.specs.Views.{how_often, numbers_of, owns, Sees, Makes, Looks, Takes, Deposits, IsSound, settled}
+use Rattle.turn_book.specs.Words.{gate_word, turn_word}
+use Rattle.turn_book.specs.Views.{how_often, numbers_of, owns}
 
 module _ {B : Type 0} where
   -- a seat's view fits the history h, of whose callers `made` were made

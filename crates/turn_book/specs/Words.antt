@@ -1,5 +1,5 @@
 -- The two words that callers share.
-use Rattle.std.specs.Prelude.{◌≡◌, ℕ, ◌+◌, ◌*◌, ◌^◌, ◌<◌, ◌≤◌, Bool, false, if◌then◌else◌}
+use Rattle.std.specs.Prelude.{◌≡◌, ℕ, ◌+◌, ◌*◌, ◌≤◌, Bool, false, if◌then◌else◌}
 use Rattle.ra_base.specs.declared.limits.TheConstants.{MOST_SAMPLES}
 use Rattle.campaign_core.specs.declared.gate.Gate.{Gate}
 

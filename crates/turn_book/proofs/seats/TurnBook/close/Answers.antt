@@ -1,9 +1,8 @@
-use Rattle.std.proofs.Common.{refl, ◌≡◌, ℕ, ◌/◌, length, Some, Option, sym, ap, ◌∙◌, subst, arith, false}
-use Rattle.std.specs.Option.{IsSome}
+use Rattle.std.proofs.Common.{refl, ◌≡◌, length, Some, subst, arith, false}
 use Rattle.std.specs.Slots.{slots_items}
 use Rattle.campaign_core.specs.History.{gate_of, deposits_of}
 use Rattle.turn_book.specs.Words.{gate_word, turn_word}
-use Rattle.turn_book.proofs.CloseLemmas.{IsEnd, ends, first_word, second_word, only_slot}
+use Rattle.turn_book.proofs.CloseLemmas.{ends, first_word, second_word, only_slot}
 use Rattle.turn_book.proofs.SeatedLemmas.{few_deposits}
 use Rattle.turn_book.proofs.seats.TurnBook.close.Goals as goal
 

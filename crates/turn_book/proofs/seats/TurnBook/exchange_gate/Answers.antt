@@ -1,7 +1,5 @@
-use Rattle.std.proofs.Common.{arith, rules, subst, sym}
-use mathlib.Core.Option.{none}
+use Rattle.std.proofs.Common.{arith}
 use Rattle.std.specs.Prelude.{None}
-use Rattle.atomic_table.specs.Table.{step}
 use Rattle.turn_book.specs.Views.{call_between}
 use Rattle.turn_book.proofs.StepLemmas.{exchange_allows}
 use Rattle.turn_book.proofs.SeatedLemmas.{exchanged_made}

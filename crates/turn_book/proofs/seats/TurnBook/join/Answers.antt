@@ -1,12 +1,12 @@
-use Rattle.std.proofs.Common.{◌≡◌, ◌≤◌, List, ℕ, length, sym, ap, ◌∙◌, subst, arith, refl}
+use Rattle.std.proofs.Common.{sym, ap, ◌∙◌, subst, arith}
 use mathlib.Core.Option.{none}
 use Rattle.atomic_table.specs.Table.{step, Allows}
 use Rattle.turn_book.specs.Steps.{Settled}
 use Rattle.turn_book.specs.Views.{taken_in}
 use Rattle.turn_book.specs.Kept.{IsKept}
-use Rattle.turn_book.specs.Seated.{slots_of, view_of}
+use Rattle.turn_book.specs.Seated.{slots_of}
 use Rattle.turn_book.proofs.JoinLemmas.{join_allows, settle_allows}
-use Rattle.turn_book.proofs.SeatedLemmas.{taken_shorter, takes_in, of_taken_in}
+use Rattle.turn_book.proofs.SeatedLemmas.{taken_shorter}
 use Rattle.turn_book.proofs.seats.TurnBook.join.Goals as goal
 
 pub join_seat-requires : goal.join_seat-requires

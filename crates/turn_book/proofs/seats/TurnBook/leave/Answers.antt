@@ -1,9 +1,8 @@
-use Rattle.std.proofs.Common.{◌≡◌, ◌∷◌, [], List, ℕ, Option, Some, None, sym, ap, ◌∙◌, subst, arith, false}
+use Rattle.std.proofs.Common.{sym, ◌∙◌, subst, arith}
 use mathlib.Core.Option.{none}
 use Rattle.atomic_table.specs.Table.{step, rest, Allows}
 use Rattle.turn_book.specs.Steps.{Left}
 use Rattle.turn_book.specs.Kept.{IsKept}
-use Rattle.turn_book.specs.Seated.{slots_of}
 use Rattle.turn_book.proofs.TurnLemmas.{leave_allows}
 use Rattle.turn_book.proofs.seats.TurnBook.leave.Goals as goal
 

@@ -1,10 +1,9 @@
-use Rattle.std.proofs.Common.{◌<◌, sym, subst, arith, rules}
+use Rattle.std.proofs.Common.{subst, arith}
 use mathlib.Core.Option.{none}
 use Rattle.atomic_table.specs.Table.{step}
-use Rattle.turn_book.specs.Views.{MayLook, Looks}
+use Rattle.turn_book.specs.Views.{MayLook}
 use Rattle.turn_book.specs.Seated.{view_of}
 use Rattle.turn_book.proofs.StepLemmas.{look_allows}
-use Rattle.turn_book.proofs.SeatedLemmas.{of_looks}
 use Rattle.turn_book.proofs.seats.TurnBook.look_at.Goals as goal
 
 pub load-word-requires : goal.load-word-requires

@@ -1,8 +1,7 @@
-use Rattle.std.proofs.Common.{◌^◌, arith, rules}
+use Rattle.std.proofs.Common.{◌^◌, arith}
 use mathlib.Core.Option.{none}
 use Rattle.atomic_table.specs.Table.{step}
 use Rattle.turn_book.proofs.StepLemmas.{seal_allows}
-use Rattle.turn_book.proofs.SeatedLemmas.{of_makes}
 use Rattle.turn_book.proofs.seats.TurnBook.mark_sealed.Goals as goal
 
 pub fetch_or-word-requires : goal.fetch_or-word-requires

@@ -1,7 +1,4 @@
-use Rattle.std.proofs.Common.{◌≡◌, rules, sym, subst, ap, ◌∙◌, ◌∷◌, ◌++◌, [], List, Some, Option}
-use Rattle.atomic_table.specs.Table.{State, opening}
-use Rattle.turn_book.specs.Views.{opening_view}
-use Rattle.turn_book.specs.Kept.{IsKept}
+use Rattle.std.proofs.Common.{◌≡◌, sym, subst, ap, ◌∙◌, ◌∷◌, ◌++◌, [], Some}
 use Rattle.turn_book.proofs.OpenLemmas.{opened_kept, opened_of}
 use Rattle.turn_book.proofs.seats.TurnBook.open.Goals as goal
 

@@ -1,8 +1,7 @@
-use Rattle.std.proofs.Common.{◌≡◌, ◌+◌, ◌/◌, ◌∷◌, ◌++◌, [], List, ℕ, Option, Some, None, length, sym, ap, ◌∙◌, subst, arith, false}
+use Rattle.std.proofs.Common.{◌≡◌, ◌+◌, ◌/◌, ◌∷◌, Some, length, sym, ap, ◌∙◌, subst, arith, false}
 use mathlib.Core.Option.{none}
 use Rattle.atomic_table.specs.Table.{step, rest, Allows}
 use Rattle.campaign_core.specs.declared.call.Call.{Call}
-use Rattle.campaign_core.specs.declared.call.Call.TheVariants.{Deposit}
 use Rattle.campaign_core.specs.History.{deposits_of}
 use Rattle.turn_book.specs.Words.{turn_word}
 use Rattle.turn_book.specs.Steps.{PutBack}

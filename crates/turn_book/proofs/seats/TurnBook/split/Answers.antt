@@ -1,4 +1,4 @@
-use Rattle.std.proofs.Common.{sym, ◌∙◌, arith}
+use Rattle.std.proofs.Common.{arith}
 use Rattle.turn_book.proofs.JoinLemmas.{split_allows}
 use Rattle.turn_book.proofs.SeatedLemmas.{of_newcomer}
 use Rattle.turn_book.proofs.seats.TurnBook.split.Goals as goal

@@ -1,7 +1,6 @@
-use Rattle.std.proofs.Common.{◌≡◌, ◌+◌, ◌∷◌, [], List, ℕ, Option, Some, None, sym, ap, ◌∙◌, subst, arith, false, rules}
+use Rattle.std.proofs.Common.{◌+◌, ap, ◌∙◌, arith}
 use mathlib.Core.Option.{none}
-use Rattle.atomic_table.specs.Table.{step, rest}
-use Rattle.turn_book.specs.Seated.{view_of, slots_of}
+use Rattle.atomic_table.specs.Table.{step}
 use Rattle.turn_book.proofs.TurnLemmas.{take_allows}
 use Rattle.turn_book.proofs.SeatedLemmas.{took_nothing, took_book, even_turn, taken_slot}
 use Rattle.turn_book.proofs.seats.TurnBook.try_take.Goals as goal
