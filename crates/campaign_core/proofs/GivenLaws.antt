@@ -1,7 +1,6 @@
 -- The ranges that a legal history gives out, and the callers to whom it gives them.
-use Rattle.std.proofs.Common.{◌≡◌, ◌≢◌, ℕ, zero, suc, ◌+◌, ◌-◌, ◌<◌, ◌≤◌, ◌==◌, inl, inr, Bool, true, false, cond, ◌&&◌, ◌||◌, not, List, [], ◌∷◌, ◌++◌, length, min, refl, ap, sym, ◌∙◌, subst, arith, append_assoc, length-append}
-use Rattle.std.specs.List.{filter}
-use Rattle.std.proofs.lemmas.Bool.{cases_Bool, cases_eq, eqb-true, eqb-false, eq-eqb, ne_eqb, or_cases, or_left, or_right, false≢true, false_from_ne_true}
+use Rattle.std.proofs.Common.{◌≡◌, ℕ, ◌+◌, ◌-◌, ◌≤◌, inl, inr, true, ◌||◌, List, [], ◌∷◌, ◌++◌, length, min, refl, ap, sym, ◌∙◌, subst, arith, length-append}
+use Rattle.std.proofs.lemmas.Bool.{cases_eq, eq-eqb, ne_eqb, or_cases, or_left, or_right, false≢true}
 use Rattle.std.proofs.lemmas.List.{append-nil, nil_from_length}
 use mathlib.Core.List.{IsPrefix}
 use Rattle.ra_base.specs.declared.limits.TheConstants.{MOST_SAMPLES, MOST_BLOCK}
@@ -9,15 +8,14 @@ use Rattle.campaign_core.specs.declared.run.SampleRange.{SampleRange}
 use Rattle.campaign_core.specs.declared.call.Call.{Call}
 use Rattle.campaign_core.specs.declared.call.Call.TheVariants.{Claim, Extend, Seal, Cancel, Deposit}
 use Rattle.campaign_core.specs.declared.call.Call.TheVariants.{Progress as AskProgress, Interim as AskInterim}
-use Rattle.campaign_core.specs.declared.call.Reply.{Reply}
 use Rattle.campaign_core.specs.declared.call.Entry.{Entry}
 use Rattle.campaign_core.specs.declared.gate.Gate.{Gate}
-use Rattle.campaign_core.specs.Ranges.{range, has_range, has_sample, without, times, weight_of, total, AreSame, AreFilled}
-use Rattle.campaign_core.specs.History.{range_in, claimed_in, reply_of, gate_of, ranges_of, deposits_of, out_of, calls_of, may_come, Follows, IsLegal}
+use Rattle.campaign_core.specs.Ranges.{range, has_range, times, weight_of, total, AreSame, AreFilled}
+use Rattle.campaign_core.specs.History.{range_in, claimed_in, reply_of, gate_of, ranges_of, deposits_of, out_of, calls_of, Follows, IsLegal}
 use Rattle.campaign_core.specs.Machine.{IsSound}
-use Rattle.campaign_core.proofs.Totals.{weight-none, weight-cut, total-nil, total-one, total-append, total_push, times-nil, times-cons, times-append, times_same, disjoint_one, disjoint_same, same_sym}
-use Rattle.campaign_core.proofs.WithoutLaws.{has-append, has-nil, has_times, has_filled, has-without, first_inside, filled_append}
-use Rattle.campaign_core.proofs.HistoryLaws.{gate-nil, gate_push, ranges-nil, ranges-append, ranges-one, ranges_push, calls-nil, calls-append, legal_by_pushes}
+use Rattle.campaign_core.proofs.Totals.{weight-none, weight-cut, total-nil, total-one, total-append, times-nil, times-append, disjoint_one, disjoint_same, same_sym}
+use Rattle.campaign_core.proofs.WithoutLaws.{has-append, has-nil, has_times, has_filled, first_inside, filled_append}
+use Rattle.campaign_core.proofs.HistoryLaws.{gate-nil, gate_push, ranges-nil, ranges-append, ranges-one, ranges_push, deposits-nil, deposits-append, calls-nil, calls-append, legal_by_pushes}
 use Rattle.campaign_core.proofs.MachineLaws.{machine_at, sound_history, claim_cases, extend_cases}
 
 -- ---- beginnings of one list
@@ -153,38 +151,67 @@ one_owner opening block o b h legal n m r ne full to_n to_m =
     let once = (disjoint_same (range 0 (gate_of opening h).next ∷ []) (ranges_of h) (same_sym (ranges_of h) (range 0 (gate_of opening h).next ∷ []) given.1) (disjoint_one (gate_of opening h).next (omega (arith, sound.next, sound.target))) r.first).0 in
     omega (arith, once, two_callers n m ne h r.first, has_times (ranges_of (calls_of n h)) r r.first to_n (first_inside r full), has_times (ranges_of (calls_of m h)) r r.first to_m (first_inside r full))
 
+-- what is told of the entries of a history, one after the other
+module _ (told : List Entry → List SampleRange) (told-nil : told [] ≡ []) (told-append : (g h : List Entry) → told (g ++ h) ≡ told g ++ told h) where
+  told_cons : (e : Entry) (h : List Entry) (r : SampleRange) → has_range (told (e ∷ h)) r ≡ (has_range (told (e ∷ [])) r || has_range (told h) r)
+  told_cons e h r = ap (λ l. has_range l r) (told-append (e ∷ []) h) ∙ has-append (told (e ∷ [])) (told h) r
+
+  told_own : (n : ℕ) (e : Entry) (h : List Entry) (r : SampleRange) → e.caller ≡ n → has_range (told (calls_of n (e ∷ h))) r ≡ (has_range (told (e ∷ [])) r || has_range (told (calls_of n h)) r)
+  told_own n e h r is = ap (λ l. has_range (told l) r) (calls_cons n e h ∙ ap (λ l. l ++ calls_of n h) (calls-own n e is)) ∙ told_cons e (calls_of n h) r
+
+  told_other : (n : ℕ) (e : Entry) (h : List Entry) (r : SampleRange) → (e.caller ≡ n → ⊥) → has_range (told (calls_of n (e ∷ h))) r ≡ has_range (told (calls_of n h)) r
+  told_other n e h r off = ap (λ l. has_range (told l) r) (calls_cons n e h ∙ ap (λ l. l ++ calls_of n h) (calls-other n e off))
+
+  -- a range that is told of a history is told of some caller's calls
+  some_caller : (h : List Entry) (r : SampleRange) → has_range (told h) r ≡ true → (n : ℕ) × (has_range (told (calls_of n h)) r ≡ true)
+  some_caller [] r has = absurd (false≢true (sym (ap (λ l. has_range l r) told-nil ∙ has-nil r) ∙ has))
+  some_caller (e ∷ h) r has =
+      elim (or_cases (has_range (told (e ∷ [])) r) (has_range (told h) r) (sym (told_cons e h r) ∙ has)) [
+        | inl here ↦ (e.caller, told_own e.caller e h r refl ∙ or_left (has_range (told (e ∷ [])) r) (has_range (told (calls_of e.caller h)) r) here)
+        | inr behind ↦
+            let rest = some_caller h r behind in
+            elim (cases_eq e.caller rest.0) [
+              | inl is ↦ (rest.0, told_own rest.0 e h r is ∙ or_right (has_range (told (e ∷ [])) r) (has_range (told (calls_of rest.0 h)) r) rest.1)
+              | inr off ↦ (rest.0, told_other rest.0 e h r off ∙ rest.1)
+            ]
+      ]
+
+  -- what is told of a caller's calls is told of the history
+  told_of_caller : (n : ℕ) (h : List Entry) (r : SampleRange) → has_range (told (calls_of n h)) r ≡ true → has_range (told h) r ≡ true
+  told_of_caller n [] r has = absurd (false≢true (sym (ap (λ l. has_range (told l) r) (calls-nil n) ∙ (ap (λ l. has_range l r) told-nil ∙ has-nil r)) ∙ has))
+  told_of_caller n (e ∷ h) r has =
+      elim (cases_eq e.caller n) [
+        | inl is ↦
+            elim (or_cases (has_range (told (e ∷ [])) r) (has_range (told (calls_of n h)) r) (sym (told_own n e h r is) ∙ has)) [
+              | inl here ↦ told_cons e h r ∙ or_left (has_range (told (e ∷ [])) r) (has_range (told h) r) here
+              | inr behind ↦ told_cons e h r ∙ or_right (has_range (told (e ∷ [])) r) (has_range (told h) r) (told_of_caller n h r behind)
+            ]
+        | inr off ↦ told_cons e h r ∙ or_right (has_range (told (e ∷ [])) r) (has_range (told h) r) (told_of_caller n h r (sym (told_other n e h r off) ∙ has))
+      ]
+
 -- a range that was given out was given to some caller
 pub some_owner : (h : List Entry) (r : SampleRange) → has_range (ranges_of h) r ≡ true → (n : ℕ) × (has_range (ranges_of (calls_of n h)) r ≡ true)
-some_owner [] r has = absurd (false≢true (sym (ap (λ l. has_range l r) ranges-nil ∙ has-nil r) ∙ has))
-some_owner (e ∷ h) r has =
-    let cut = sym (ap (λ l. has_range l r) (ranges_cons e h) ∙ has-append (range_in e.reply) (ranges_of h) r) ∙ has in
-    elim (or_cases (has_range (range_in e.reply) r) (has_range (ranges_of h) r) cut) [
-      | inl here ↦
-          let own = ap (λ l. has_range (ranges_of l) r) (calls_cons e.caller e h ∙ ap (λ l. l ++ calls_of e.caller h) (calls-own e.caller e refl)) in
-          (e.caller, own ∙ (ap (λ l. has_range l r) (ranges_cons e (calls_of e.caller h)) ∙ (has-append (range_in e.reply) (ranges_of (calls_of e.caller h)) r ∙ or_left (has_range (range_in e.reply) r) (has_range (ranges_of (calls_of e.caller h)) r) here)))
-      | inr behind ↦
-          let rest = some_owner h r behind in
-          let longer = ap (λ l. has_range (ranges_of l) r) (calls_cons rest.0 e h) ∙ (ap (λ l. has_range l r) (ranges-append (calls_of rest.0 (e ∷ [])) (calls_of rest.0 h)) ∙ has-append (ranges_of (calls_of rest.0 (e ∷ []))) (ranges_of (calls_of rest.0 h)) r) in
-          (rest.0, longer ∙ or_right (has_range (ranges_of (calls_of rest.0 (e ∷ []))) r) (has_range (ranges_of (calls_of rest.0 h)) r) rest.1)
-    ]
+some_owner h r has = some_caller ranges_of ranges-nil ranges-append h r has
 
 -- a caller's ranges are the history's
 pub owned_given : (n : ℕ) (h : List Entry) (r : SampleRange) → has_range (ranges_of (calls_of n h)) r ≡ true → has_range (ranges_of h) r ≡ true
-owned_given n [] r has = absurd (false≢true (sym (ap (λ l. has_range (ranges_of l) r) (calls-nil n) ∙ (ap (λ l. has_range l r) ranges-nil ∙ has-nil r)) ∙ has))
-owned_given n (e ∷ h) r has =
-    let whole = ap (λ l. has_range l r) (ranges_cons e h) ∙ has-append (range_in e.reply) (ranges_of h) r in
-    elim (cases_eq e.caller n) [
-      | inl is ↦
-          let own = ap (λ l. has_range (ranges_of l) r) (calls_cons n e h ∙ ap (λ l. l ++ calls_of n h) (calls-own n e is)) ∙ (ap (λ l. has_range l r) (ranges_cons e (calls_of n h)) ∙ has-append (range_in e.reply) (ranges_of (calls_of n h)) r) in
-          elim (or_cases (has_range (range_in e.reply) r) (has_range (ranges_of (calls_of n h)) r) (sym own ∙ has)) [
-            | inl here ↦ whole ∙ or_left (has_range (range_in e.reply) r) (has_range (ranges_of h) r) here
-            | inr behind ↦ whole ∙ or_right (has_range (range_in e.reply) r) (has_range (ranges_of h) r) (owned_given n h r behind)
-          ]
-      | inr off ↦
-          let same = ap (λ l. has_range (ranges_of l) r) (calls_cons n e h ∙ ap (λ l. l ++ calls_of n h) (calls-other n e off)) in
-          whole ∙ or_right (has_range (range_in e.reply) r) (has_range (ranges_of h) r) (owned_given n h r (sym same ∙ has))
-    ]
+owned_given n h r has = told_of_caller ranges_of ranges-nil ranges-append n h r has
+
+-- a range that was deposited was deposited by some caller
+pub some_depositor : (h : List Entry) (r : SampleRange) → has_range (deposits_of h) r ≡ true → (n : ℕ) × (has_range (deposits_of (calls_of n h)) r ≡ true)
+some_depositor h r has = some_caller deposits_of deposits-nil deposits-append h r has
+
+-- a caller's deposits are the history's
+pub owned_deposits : (n : ℕ) (h : List Entry) (r : SampleRange) → has_range (deposits_of (calls_of n h)) r ≡ true → has_range (deposits_of h) r ≡ true
+owned_deposits n h r has = told_of_caller deposits_of deposits-nil deposits-append n h r has
 
 pub given_filled : (opening block : ℕ) → (1 ≤ opening) × (opening ≤ MOST_SAMPLES) → (1 ≤ block) × (block ≤ MOST_BLOCK) → (h : List Entry) → IsLegal opening block h
     → (r : SampleRange) → has_range (ranges_of h) r ≡ true → 1 ≤ r.count
 given_filled opening block o b h legal r has = has_filled (ranges_of h) r (ranges_given opening block o b h legal).0 has
+
+-- where nothing is out, the deposits are just the samples below next
+pub all_deposited : (opening block : ℕ) → (1 ≤ opening) × (opening ≤ MOST_SAMPLES) → (1 ≤ block) × (block ≤ MOST_BLOCK) → (h : List Entry) → IsLegal opening block h
+    → out_of h ≡ [] → AreSame (deposits_of h) (range 0 (gate_of opening h).next ∷ [])
+all_deposited opening block o b h legal none w =
+    let sound = sound_history opening block o b h legal in
+    ap (total w) (sym (append-nil (deposits_of h))) ∙ (ap (λ out. total w (deposits_of h ++ out)) (sym none) ∙ sound.same w)

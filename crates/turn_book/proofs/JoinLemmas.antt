@@ -68,7 +68,7 @@ abbrev AllBelow : ℕ → List ℕ → Type 0
 AllBelow m [] = Unit {0}
 AllBelow m (n ∷ ns) = (n < m) × AllBelow m ns
 
-length_often : (m : ℕ) (ns : List ℕ) → AllBelow m ns → length ns ≡ sum_below (λ i. how_often i ns) m
+pub length_often : (m : ℕ) (ns : List ℕ) → AllBelow m ns → length ns ≡ sum_below (λ i. how_often i ns) m
 length_often m [] b = sym (below-none (λ i. how_often i []) m (λ i l. refl))
 length_often m (n ∷ ns) b =
     let one = below-only (λ i. 1) n m b.0 in
@@ -103,7 +103,7 @@ all_among m ns below once long n l =
       | inr away ↦ absurd (omega (arith, length_often m ns below, below_short (λ i. how_often i ns) m n l once (often_among n ns away)))
     ]
 
-all_below_from : (m : ℕ) (ns : List ℕ) → ((n : ℕ) → list_any (λ k. k == n) ns ≡ true → n < m) → AllBelow m ns
+pub all_below_from : (m : ℕ) (ns : List ℕ) → ((n : ℕ) → list_any (λ k. k == n) ns ≡ true → n < m) → AllBelow m ns
 all_below_from m [] h = tt
 all_below_from m (n ∷ ns) h = (
   h n (or_left (n == n) (list_any (λ k. k == n) ns) (eq-eqb n n refl)),

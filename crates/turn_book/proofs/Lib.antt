@@ -6,3 +6,4 @@ pub mod JoinLemmas
 pub mod SeatedLemmas
 pub mod OpenLemmas
 pub mod CloseLemmas
+pub mod SoundLaws
