@@ -8,3 +8,4 @@ pub mod HistoryLaws
 pub mod MachineLaws
 pub mod ReplyLaws
 pub mod PlayLaws
+pub mod GivenLaws

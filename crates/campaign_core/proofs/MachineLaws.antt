@@ -248,7 +248,7 @@ fresh_claim m count sound full =
     above : (n : ℕ) → cond (has_sample n (range 0 n)) 1 0 ≡ zero
     above n = let off : has_sample n (range 0 n) ≡ false = grind (arith, nat_tests) in ap (λ b. cond b 1 0) off
 
-fresh : (m : Machine) (call : Call) → IsSound m → without m.deposited (range_in (reply_of m.block m.gate m.deposited call)) ≡ range_in (reply_of m.block m.gate m.deposited call)
+pub fresh : (m : Machine) (call : Call) → IsSound m → without m.deposited (range_in (reply_of m.block m.gate m.deposited call)) ≡ range_in (reply_of m.block m.gate m.deposited call)
 fresh m Claim sound =
     claim_cases m.block m.gate (λ reply. without m.deposited (range_in reply) ≡ range_in reply)
     (λ a. without-nil m.deposited) (λ a b c. without-nil m.deposited) (λ a b c. without-nil m.deposited)

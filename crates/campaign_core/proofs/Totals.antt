@@ -100,31 +100,31 @@ pub times_same : (xs ys : List SampleRange) → AreSame xs ys → (n : ℕ) → 
 times_same xs ys same n = times-total n xs ∙ (same (only n) ∙ sym (times-total n ys))
 
 -- the numbers below n, weighed and added up
-sum_below : (ℕ → ℕ) → ℕ → ℕ
+pub sum_below : (ℕ → ℕ) → ℕ → ℕ
 sum_below f zero = 0
 sum_below f (suc n) = sum_below f n + f n
 
-below-zero : (f : ℕ → ℕ) → sum_below f 0 ≡ 0
+pub below-zero : (f : ℕ → ℕ) → sum_below f 0 ≡ 0
 unfolding sum_below
 below-zero f = refl
 
-below-suc : (f : ℕ → ℕ) (n : ℕ) → sum_below f (suc n) ≡ sum_below f n + f n
+pub below-suc : (f : ℕ → ℕ) (n : ℕ) → sum_below f (suc n) ≡ sum_below f n + f n
 unfolding sum_below
 below-suc f n = refl
 
-below-none : (f : ℕ → ℕ) (n : ℕ) → ((i : ℕ) → i < n → f i ≡ 0) → sum_below f n ≡ 0
+pub below-none : (f : ℕ → ℕ) (n : ℕ) → ((i : ℕ) → i < n → f i ≡ 0) → sum_below f n ≡ 0
 below-none f zero h = below-zero f
 below-none f (suc n) h = omega (arith, below-suc f n, below-none f n (λ i l. h i (omega arith)), h n (omega arith))
 
-below-both : (f g k : ℕ → ℕ) (n : ℕ) → ((i : ℕ) → k i ≡ f i + g i) → sum_below k n ≡ sum_below f n + sum_below g n
+pub below-both : (f g k : ℕ → ℕ) (n : ℕ) → ((i : ℕ) → k i ≡ f i + g i) → sum_below k n ≡ sum_below f n + sum_below g n
 below-both f g k zero h = omega (arith, below-zero f, below-zero g, below-zero k)
 below-both f g k (suc n) h = omega (arith, below-suc f n, below-suc g n, below-suc k n, below-both f g k n h, h n)
 
-below-same : (f g : ℕ → ℕ) (n : ℕ) → ((i : ℕ) → i < n → f i ≡ g i) → sum_below f n ≡ sum_below g n
+pub below-same : (f g : ℕ → ℕ) (n : ℕ) → ((i : ℕ) → i < n → f i ≡ g i) → sum_below f n ≡ sum_below g n
 below-same f g zero h = below-zero f ∙ sym (below-zero g)
 below-same f g (suc n) h = omega (arith, below-suc f n, below-suc g n, below-same f g n (λ i l. h i (omega arith)), h n (omega arith))
 
-below-only : (f : ℕ → ℕ) (a n : ℕ) → a < n → sum_below (λ i. cond (i == a) (f i) 0) n ≡ f a
+pub below-only : (f : ℕ → ℕ) (a n : ℕ) → a < n → sum_below (λ i. cond (i == a) (f i) 0) n ≡ f a
 below-only f a zero h = absurd (omega arith)
 below-only f a (suc n) h =
     elim (cases_eq n a) [
@@ -234,7 +234,7 @@ disjoint_one n h s =
 
 -- ---- how many samples disjoint ranges have
 
-below-le : (f g : ℕ → ℕ) (n : ℕ) → ((i : ℕ) → i < n → f i ≤ g i) → sum_below f n ≤ sum_below g n
+pub below-le : (f g : ℕ → ℕ) (n : ℕ) → ((i : ℕ) → i < n → f i ≤ g i) → sum_below f n ≤ sum_below g n
 below-le f g zero h = omega (arith, below-zero f, below-zero g)
 below-le f g (suc n) h = omega (arith, below-suc f n, below-suc g n, below-le f g n (λ i l. h i (omega arith)), h n (omega arith))
 
