@@ -1,4 +1,4 @@
-ghost use Rattle.std.specs.Prelude.{◌≡◌, ℕ, ◌+◌, ◌/◌, ◌%◌, ◌<◌, ◌≤◌, length, slice_index};
+ghost use Rattle.std.specs.Prelude.{◌≡◌, ℕ, ◌+◌, ◌/◌, ◌%◌, ◌^◌, ◌<◌, ◌≤◌, length, slice_index};
 ghost use Rattle.sample_streams.specs.Draw.{draw, next_of, behind};
 
 use rand_chacha::ChaCha8Rng;
@@ -76,6 +76,7 @@ impl SampleStream {
         requires { length words.old ≤ self.old.components }
         ensures words { (k : ℕ) → k < length words.old
             → slice_index words.new k ≡ next_of (behind k self.old) }
+        ensures range { (k : ℕ) → k < length words.old → slice_index words.new k < 2 ^ 32 }
         ensures next { self.new ≡ behind (length words.old) self.old }
     {
         for word in words.iter_mut() {

@@ -17,6 +17,7 @@ loop-word-init c =
     record {
       generator = ap (moved c.self.inside) (sym (ap (λ n. n % 2 ^ 68) here ∙ mod-eq_of_lt c.self.invariant.1));
       drawn = λ k l. absurd (omega arith);
+      small = λ k l. absurd (omega arith);
     }
 
 pub loop-word-preserved : goal.loop-word-preserved
@@ -37,6 +38,9 @@ loop-word-preserved c =
       drawn = below_more _ _
           (λ k l. let ne : k ≢ i = omega arith in get_or-set_other c.loop-word.words i k c.next_word.result 0 ne ∙ c.loop-word.invariant.drawn k l)
           (get_or-set_same c.loop-word.words i c.next_word.result 0 (omega arith) ∙ word);
+      small = below_more _ _
+          (λ k l. let ne : k ≢ i = omega arith in rw (get_or-set_other c.loop-word.words i k c.next_word.result 0 ne) (c.loop-word.invariant.small k l))
+          (rw (get_or-set_same c.loop-word.words i c.next_word.result 0 (omega arith)) c.next_word.type_inv);
     }
 
 pub invariant_of-self : goal.invariant_of-self

@@ -9,4 +9,5 @@ invariant-loop-word l =
     record {
       generator : l.self-inside ≡ record l.initial.self-inside { words = record first { word_pos = (first.word_pos + l.word-index) % 2 ^ 68 } };
       drawn : (k : ℕ) → k < l.word-index → get_or l.words k 0 ≡ word_at 4 first.key first.stream ((first.word_pos + k) % 2 ^ 68);
+      small : (k : ℕ) → k < l.word-index → get_or l.words k 0 < 2 ^ 32;
     }
