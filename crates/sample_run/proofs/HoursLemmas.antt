@@ -6,7 +6,7 @@ use Rattle.std.proofs.Math.Nat.{mod-eq_of_lt}
 use Rattle.std.proofs.lemmas.Bool.{cases_eq}
 use Rattle.std.proofs.lemmas.Nat.{mul-le, div-mul-add, mod-mul-add}
 use Rattle.sample_run.specs.declared.unit_states.UnitState.{UnitState}
-use Rattle.sample_run.specs.Draw.{draw, Draws}
+use Rattle.sample_streams.specs.Draw.{draw, Draws}
 use Rattle.sample_run.specs.UnitStates.{state_in, unit_supply, no_state}
 
 -- the draw of a unit in this hour

@@ -7,7 +7,7 @@ use Rattle.system_model.specs.declared.components.Unit.{Unit as UnitPart}
 use Rattle.system_model.specs.Rates.{out_weight, up_weight}
 use Rattle.system_model.specs.System.{SystemParts, unit_count, hour_count, unit_at, unit_capacity, hourly_load, hourly_variable}
 use Rattle.sample_run.specs.declared.unit_states.UnitState.{UnitState}
-use Rattle.sample_run.specs.Draw.{draw, Draws}
+use Rattle.sample_streams.specs.Draw.{draw, Draws}
 use Rattle.sample_run.specs.Outages.{is_up, unit_is_up, fails, is_repaired, component_count}
 use Rattle.sample_run.specs.Results.{HourOutcome, no_outcome, one_zone_outcome, Tally, tally_of, figures_of}
 use Rattle.sample_run.specs.Run.{up_capacity, unserved_in, run_of, IsOnlyRun}

@@ -1,5 +1,4 @@
 pub mod CutRows
-pub mod Draw
 pub mod Estimates
 pub mod Keeps
 pub mod Outages

@@ -3,7 +3,7 @@ use Rattle.std.specs.Prelude.{ℕ, zero, suc, ◌+◌, ◌*◌, ◌^◌, Bool, n
 use Rattle.system_model.specs.declared.components.Rates.{Rates}
 use Rattle.system_model.specs.Rates.{out_weight, up_weight}
 use Rattle.system_model.specs.System.{SystemParts, unit_count, unit_rates}
-use Rattle.sample_run.specs.Draw.{draw}
+use Rattle.sample_streams.specs.Draw.{draw}
 
 -- whether a component is out at hour 0, which it is with its unavailability in the long run
 abbrev pub starts_out : Rates → ℕ → Bool

@@ -2,7 +2,7 @@
 use Rattle.std.specs.Prelude.{◌≡◌, List, length}
 use Rattle.system_model.specs.System.{SystemParts, IsValid, zone_count, unit_count, hour_count}
 use Rattle.sample_run.specs.declared.unit_states.UnitState.{UnitState}
-use Rattle.sample_run.specs.Draw.{Draws}
+use Rattle.sample_streams.specs.Draw.{Draws}
 use Rattle.sample_run.specs.Results.{Tally}
 use Rattle.sample_run.specs.UnitStates.{AreStatesOf}
 

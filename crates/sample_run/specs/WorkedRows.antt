@@ -1,23 +1,11 @@
 -- Small cases that the definitions compute, each known by hand or from an independent program.
 use Rattle.std.specs.Prelude.{◌≡◌, true, false, List, [], ◌∷◌, replicate, map, Some, None, refl}
-use Rattle.rand_chacha.specs.Block.{block_word, double_rounds, diagonal_round, quarter_round, column_round}
-use Rattle.rand_core.specs.Steps.{u32_at}
 use Rattle.system_model.specs.declared.components.Rates.{Rates}
-use Rattle.sample_run.specs.Draw.{draw, key_bytes}
 use Rattle.sample_run.specs.Outages.{is_up}
 use Rattle.sample_run.specs.CutRows.{rows_of}
 use Rattle.sample_run.specs.Results.{HourOutcome, one_zone_outcome, Figures, figures_of, is_short_at, is_short_day, short_hours, short_days, short_events, unserved_energy, zone_energy, cut_hours, cut_energy}
 use Rattle.sample_run.specs.Estimates.{mean_of, error_of, greatest_up_to}
 use Rattle.sample_run.specs.Totals.{sums_of, totals_of}
-
--- the key of seed 258 begins with the bytes 2 and 1
-pub key_of_258 : key_bytes 258 ≡ 2 ∷ 1 ∷ 0 ∷ 0 ∷ 0 ∷ 0 ∷ 0 ∷ 0 ∷ replicate 24 0
-key_of_258 = refl
-
--- the draw of component 1 in hour 5 of sample 7 under seed 258, of 3 components
-pub draw_of_258 : draw 3 258 7 5 1 ≡ 1252293431
-unfolding draw u32_at block_word double_rounds diagonal_round quarter_round column_round
-draw_of_258 = refl
 
 -- a component that always fails and is always repaired is out every other hour
 abbrev every_other : Rates

@@ -1,9 +1,9 @@
 ghost use Rattle.std.specs.Prelude.{◌≡◌, ℕ, ◌+◌, ◌*◌, ◌^◌, ◌<◌, ◌≤◌, length, slice_index_or, sum_by};
-ghost use Rattle.sample_run.specs.Draw.{draw};
+ghost use Rattle.sample_streams.specs.Draw.{draw};
 ghost use Rattle.sample_run.specs.UnitStates.{state_in, unit_supply, no_state};
 
-use crate::draw::SampleStream;
 use crate::unit_states::UnitState;
+use sample_streams::SampleStream;
 
 /// Takes the draws of an hour, and answers what the units that are up in it give in MW.
 pub(crate) fn up_supply(units: &mut [UnitState], draws: &mut SampleStream, hour: u32) -> u32

@@ -3,7 +3,6 @@
 #![tactic(auto)]
 
 mod cut_rows;
-mod draw;
 mod estimates;
 mod hours;
 mod results;
@@ -14,7 +13,6 @@ mod totals;
 mod unit_states;
 
 pub use cut_rows::CutRow;
-pub use draw::SampleStream;
 pub use estimates::{Sums, error, mean};
 pub use results::SampleResult;
 pub use runner::Runner;

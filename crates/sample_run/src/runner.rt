@@ -5,11 +5,11 @@ ghost use Rattle.sample_run.specs.Results.{figures_of};
 ghost use Rattle.sample_run.specs.Run.{run_of, IsOnlyRun};
 ghost use Rattle.sample_run.specs.UnitStates.{AreStatesOf};
 
-use crate::draw::SampleStream;
 use crate::hours::up_supply;
 use crate::results::SampleResult;
 use crate::unit_states::UnitState;
 use ra_base::OutOfMemory;
+use sample_streams::SampleStream;
 use std::alloc::Global;
 use std::marker::Model;
 use system_model::System;

@@ -1,7 +1,7 @@
 ghost use Rattle.std.specs.Prelude.{◌≡◌, ◌<◌, ◌≤◌, IfOk, length};
 ghost use Rattle.system_model.specs.System.{zone_count};
 
-use crate::{CutRow, Part, Runner, SampleResult, SampleStream, Sums, Totals, error, mean};
+use crate::{CutRow, Part, Runner, SampleResult, Sums, Totals, error, mean};
 use ra_base::{Amounts, OutOfMemory};
 use std::alloc::Global;
 use std::process::Abort;
@@ -60,35 +60,6 @@ fn study(
         totals.add(runner.run(sample))?;
     }
     Ok(totals)
-}
-
-#[test]
-fn draws_are_the_words_of_an_independent_chacha(rt: HostRuntime) {
-    // Seed, components, sample, draws before, the word.
-    for (seed, components, sample, before, word) in [
-        (1, 1, 0, 0, 2_699_648_719),
-        (1, 1, 0, 1, 1_638_484_553),
-        (258, 3, 0, 0, 231_641_764),
-        (258, 3, 0, 2, 1_326_378_658),
-        (258, 3, 7, 0, 1_337_923_582),
-        (258, 3, 7, 16, 1_252_293_431),
-        (u64::MAX, 96, 999_999, 0, 19_655_956),
-        (u64::MAX, 96, 999_999, 95, 2_856_790_598),
-        (u64::MAX, 96, 999_999, 99, 1_217_679_161),
-    ] {
-        assert!(rt; components > 0);
-        let mut draws = SampleStream::new(seed, components);
-        let first = draws.next_draw();
-        draws.start(sample);
-        let mut drawn = draws.next_draw();
-        if sample == 0 {
-            assert_eq!(rt; first, drawn);
-        }
-        'skipped: for _ in 0..before {
-            drawn = draws.next_draw();
-        }
-        assert_eq!(rt; drawn, word, "seed {seed} sample {sample} after {before}");
-    }
 }
 
 // Sum, mean and error of each part.

@@ -1,5 +1,5 @@
 use Rattle.std.proofs.Common.{ap, ◌∙◌}
-use Rattle.sample_run.specs.Draw.{Draws}
+use Rattle.sample_streams.specs.Draw.{Draws}
 use Rattle.sample_run.proofs.runner.Runner.new.Goals as goal
 
 pub invariant_of-result : goal.invariant_of-result

@@ -1,6 +1,6 @@
 use Rattle.std.proofs.Common.{◌≡◌, ◌+◌, ◌-◌, length, vec_len, take, drop, ◌++◌, arith, refl, sym, ap, ◌∙◌}
 use Rattle.system_model.specs.System.{SystemParts, unit_count, hour_count, hourly_load, hourly_variable}
-use Rattle.sample_run.specs.Draw.{Draws}
+use Rattle.sample_streams.specs.Draw.{Draws}
 use Rattle.sample_run.specs.Run.{Simulation}
 use Rattle.sample_run.proofs.Counting.{written_over}
 use Rattle.sample_run.proofs.RunLemmas.{started, start-at, more-at, zones-at, counted-at, room-at, figures-at, tally-none_at, one_run}

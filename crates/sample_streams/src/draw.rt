@@ -1,5 +1,5 @@
-ghost use Rattle.std.specs.Prelude.{◌≡◌, ◌+◌, ◌/◌, ◌%◌, ◌^◌, ◌<◌};
-ghost use Rattle.sample_run.specs.Draw.{draw};
+ghost use Rattle.std.specs.Prelude.{◌≡◌, ℕ, ◌+◌, ◌/◌, ◌%◌, ◌^◌, ◌<◌, ◌≤◌, length, slice_index};
+ghost use Rattle.sample_streams.specs.Draw.{draw, next_of, behind};
 
 use rand_chacha::ChaCha8Rng;
 use rand_core::SeedableRng;
@@ -7,7 +7,8 @@ use rand_core::utils::NextWord;
 use std::marker::Model;
 
 /// The draws of one sample after another: for a sample those of hour 0 by component, then those of
-/// hour 1, and so on. A draw depends on the seed, the sample, the hour and the component alone.
+/// hour 1, and so on. A draw depends on the seed, the sample, the hour and the component alone. No
+/// call takes memory.
 ///
 /// The words are those of ChaCha with 8 rounds. The key is the seed's eight little-endian bytes and
 /// 24 zero bytes, the stream is the sample, and the place is `hour * components + component`. A
@@ -20,9 +21,9 @@ pub struct SampleStream {
 }
 
 impl Model for SampleStream {
-    ghost use Rattle.std.specs.Prelude.{◌≡◌};
+    ghost use Rattle.std.specs.Prelude.{◌≡◌, ◌<◌, ◌^◌};
     ghost use Rattle.rand_chacha.specs.ChaCha.{key_of};
-    ghost use Rattle.sample_run.specs.Draw.{Draws, key_bytes};
+    ghost use Rattle.sample_streams.specs.Draw.{Draws, key_bytes};
 
     ghost Value = { Draws };
 
@@ -33,7 +34,7 @@ impl Model for SampleStream {
       place = s.words.word_pos;
     } };
 
-    ghost invariant = { λ s. s.words.key ≡ key_of (key_bytes s.seed) };
+    ghost invariant = { λ s. (s.words.key ≡ key_of (key_bytes s.seed)) × (s.words.word_pos < 2 ^ 68) };
 }
 
 impl SampleStream {
@@ -64,8 +65,22 @@ impl SampleStream {
         requires { 0 < self.old.components }
         ensures word { let hour = self.old.place / self.old.components in let component = self.old.place % self.old.components in
             result ≡ draw self.old.components self.old.seed self.old.sample hour component }
-        ensures next { self.new ≡ record self.old { place = (self.old.place + 1) % 2 ^ 68 } }
+        ensures next { self.new ≡ behind 1 self.old }
     {
         self.words.next_word()
+    }
+
+    /// The next draws, at most an hour's, in order: as many as `words` has room for. Each is the one
+    /// that `next_draw` would give. An hour's draws cost less this way than one by one.
+    pub fn next_draws(&mut self, words: &mut [u32])
+        requires { length words.old ≤ self.old.components }
+        ensures words { (k : ℕ) → k < length words.old
+            → slice_index words.new k ≡ next_of (behind k self.old) }
+        ensures range { (k : ℕ) → k < length words.old → slice_index words.new k < 2 ^ 32 }
+        ensures next { self.new ≡ behind (length words.old) self.old }
+    {
+        for word in words.iter_mut() {
+            *word = self.words.next_word();
+        }
     }
 }

@@ -1,5 +1,5 @@
 -- The numbered draws: a word for each hour and component of a sample, which depends on no draw before it.
-use Rattle.std.specs.Prelude.{ℕ, ◌+◌, ◌*◌, List, ◌++◌, replicate}
+use Rattle.std.specs.Prelude.{ℕ, ◌+◌, ◌*◌, ◌/◌, ◌%◌, ◌^◌, List, ◌++◌, replicate}
 use Rattle.std.specs.Int.{w64, to_le_bytes}
 use Rattle.rand_chacha.specs.ChaCha.{word_at, key_of}
 
@@ -20,3 +20,12 @@ key_bytes seed = to_le_bytes w64 seed ++ replicate 24 0
 unfoldable pub draw : ℕ → ℕ → ℕ → ℕ → ℕ → ℕ
 draw components seed sample hour component =
     word_at 4 (key_of (key_bytes seed)) sample (hour * components + component)
+
+-- the draw that comes next in a stream
+abbrev pub next_of : Draws → ℕ
+next_of draws =
+    draw draws.components draws.seed draws.sample (draws.place / draws.components) (draws.place % draws.components)
+
+-- the stream behind so many draws more
+abbrev pub behind : ℕ → Draws → Draws
+behind count draws = record draws { place = (draws.place + count) % 2 ^ 68 }

@@ -1,0 +1,4 @@
+pub mod RatesByKind
+pub mod Laws
+pub mod ThresholdLists
+pub mod KeptLemmas

@@ -1,0 +1,30 @@
+use Rattle.std.proofs.Common.{◌≡◌, length, arith, sym, ap, ◌∙◌}
+use Rattle.system_model.specs.System.{SystemParts, hour_count}
+use Rattle.sample_streams.specs.Draw.{behind}
+use Rattle.outage_chronology.specs.Outages.{component_count}
+use Rattle.outage_chronology.specs.Standing.{Standing}
+use Rattle.outage_chronology.proofs.KeptLemmas.{AreNext, written_over, stepped}
+use Rattle.outage_chronology.proofs.chronologies.Chronology.step.Goals as goal
+
+pub invariant_of-self : goal.invariant_of-self
+invariant_of-self c =
+    let old = c.self.inside in
+    let kept = c.self.invariant in
+    let words = c.next_draws.new.words in
+    let masks = c.go_on.new.masks in
+    let count = component_count old.system.now in
+    let room : length words ≡ count = omega arith in
+    let size : length masks ≡ count = omega arith in
+    let words_are = written_over old.words.items words old.words.len (omega arith) (omega arith) in
+    let masks_are = written_over old.masks.items masks old.masks.len (omega arith) (omega arith) in
+    let system_is : old.system.now ≡ c.args.self.now.system = ap (λ (s : Standing). s.system) c.self.view_is in
+    let hour_is : old.hour ≡ c.args.self.now.hour = ap (λ (s : Standing). s.hour) c.self.view_is in
+    let hours : hour_count old.system.now ≡ hour_count c.args.self.now.system = ap (λ (s : SystemParts). hour_count s) system_is in
+    let same : length words ≡ length c.deref_mut.result.now = omega arith in
+    let next = c.next_draws.ensures.next ∙ ap (λ n. behind n old.draws) (sym same) in
+    let drawn : AreNext old.draws words = record { each = λ k l. c.next_draws.ensures.words k (omega arith); small = λ k l. c.next_draws.ensures.range k (omega arith) } in
+    let words_read = c.deref.ensures.value ∙ words_are in
+    let gone = rw (c.deref_mut-2.ensures.value, words_read, c.deref-2.ensures.value, c.deref-3.ensures.value) at c.go_on.ensures in
+    rw (words_are, masks_are)
+    (stepped old.system.now old.hour old.draws c.next_draws.new.self old.thresholds old.words.items old.masks.items words masks kept (omega arith) room drawn next size
+    (λ k l. gone k (omega arith)))

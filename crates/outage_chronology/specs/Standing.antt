@@ -1,0 +1,15 @@
+-- Where a chronology stands.
+use Rattle.std.specs.Prelude.{ℕ, Bool}
+use Rattle.system_model.specs.System.{SystemParts}
+use Rattle.outage_chronology.specs.Outages.{is_up}
+
+-- what a contract sees of a chronology: its system and seed, and the sample and hour where it stands
+pub record Standing : Type 0 where
+  pub system : SystemParts
+  pub seed : ℕ
+  pub sample : ℕ
+  pub hour : ℕ
+
+-- whether a component is up in that hour
+abbrev pub is_up_at : Standing → ℕ → Bool
+is_up_at at component = is_up at.system at.seed at.sample at.hour component

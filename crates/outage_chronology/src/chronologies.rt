@@ -1,0 +1,117 @@
+ghost use Rattle.std.specs.Prelude.{◌≡◌, ℕ, ◌+◌, ◌*◌, ◌<◌, IfOk, length, slice_index};
+ghost use Rattle.system_model.specs.System.{IsValid, hour_count};
+ghost use Rattle.outage_chronology.specs.Outages.{component_count as count_of};
+ghost use Rattle.outage_chronology.specs.Standing.{is_up_at};
+
+use crate::components::component_count;
+use crate::masks::{begin, go_on};
+use crate::thresholds::Thresholds;
+use ra_base::OutOfMemory;
+use sample_streams::SampleStream;
+use std::alloc::Global;
+use std::marker::Model;
+use system_model::System;
+
+/// Which components of a system are up, hour by hour of a sample. Components are the units, then the
+/// storages, then the lines, each in the order of its table.
+///
+/// Only `new` takes memory.
+#[derive(Drop)]
+pub struct Chronology<'a> {
+    system: &'a System,
+    hour: u32,
+    draws: SampleStream,
+    thresholds: Thresholds,
+    words: Vec<u32>,
+    masks: Vec<u32>,
+}
+
+impl<'a> Model for Chronology<'a> {
+    ghost use Rattle.outage_chronology.specs.Standing.{Standing};
+
+    ghost Value = { Standing };
+
+    ghost use Rattle.outage_chronology.specs.Kept.{IsKept};
+
+    ghost view = { λ c. record { system = c.system.now; seed = c.draws.seed; sample = c.draws.sample; hour = c.hour } };
+
+    ghost invariant = { λ c. IsKept c.system.now c.hour c.draws c.thresholds c.words.items c.masks.items };
+}
+
+impl<'a> Chronology<'a> {
+    ghost use Rattle.outage_chronology.specs.Kept.{AreUpMasks};
+
+    /// The chronology of a system under a seed, at hour 0 of sample 0.
+    pub fn new(alloc: Global, system: &'a System, seed: u64) -> Result<Chronology<'a>, OutOfMemory>
+        ensures { IfOk result (λ c. c ≡ record { system = system.now; seed = seed; sample = 0; hour = 0 }) }
+    {
+        let count = component_count(system);
+        let thresholds = Thresholds::of(alloc, system)?;
+        let mut words = vec![in alloc; 0; count as usize]?;
+        let mut masks = vec![in alloc; 0; count as usize]?;
+        let mut draws = SampleStream::new(seed, count);
+        draws.next_draws(&mut words);
+        begin(&mut masks, &words, &thresholds.starts_out);
+        Ok(Chronology {
+            system,
+            hour: 0,
+            draws,
+            thresholds,
+            words,
+            masks,
+        })
+    }
+
+    /// Goes to hour 0 of a sample.
+    pub fn start(&mut self, sample: u32)
+        ensures { self.new ≡ record self.old { sample = sample; hour = 0 } }
+    {
+        self.draws.start(sample);
+        self.draws.next_draws(&mut self.words);
+        begin(&mut self.masks, &self.words, &self.thresholds.starts_out);
+        self.hour = 0;
+    }
+
+    /// Goes to the next hour of the sample.
+    pub fn step(&mut self)
+        requires { self.old.hour + 1 < hour_count self.old.system }
+        ensures { self.new ≡ record self.old { hour = self.old.hour + 1 } }
+    {
+        self.draws.next_draws(&mut self.words);
+        go_on(
+            &mut self.masks,
+            &self.words,
+            &self.thresholds.fails,
+            &self.thresholds.is_repaired,
+        );
+        self.hour += 1;
+    }
+
+    /// Whether a component is up in this hour.
+    #[inline]
+    pub fn is_up(&self, component: u32) -> bool
+        requires { component < count_of self.now.system }
+        ensures { result ≡ is_up_at self.now component }
+    {
+        self.masks[component as usize] != 0
+    }
+
+    /// The masks of all components, by their places: all ones for one that is up, 0 for one that is out.
+    /// So `mask & capacity` is what a unit gives.
+    #[inline]
+    pub fn up_masks(&self) -> &[u32]
+        ensures { AreUpMasks self.now.system self.now.seed self.now.sample self.now.hour result.now }
+    {
+        &self.masks
+    }
+
+    /// The hour, counted from 0.
+    #[inline]
+    pub fn hour(&self) -> u32
+        ensures value { result ≡ self.now.hour }
+        ensures range { result < hour_count self.now.system }
+        ensures valid { IsValid self.now.system }
+    {
+        self.hour
+    }
+}

@@ -1,0 +1,11 @@
+//! Outages hour by hour: which units, storages and lines of a system are up in an hour of a sample.
+#![tactic(auto)]
+
+mod chronologies;
+mod components;
+mod masks;
+#[cfg(test)]
+mod tests;
+mod thresholds;
+
+pub use chronologies::Chronology;

@@ -1,0 +1,9 @@
+//! The random words of a study: draws that are numbered by sample, hour and component, so that each
+//! depends on the seed and its own number alone.
+#![tactic(auto)]
+
+mod draw;
+#[cfg(test)]
+mod tests;
+
+pub use draw::SampleStream;
