@@ -1,0 +1,41 @@
+ghost use Rattle.std.specs.Prelude.{◌≡◌, ◌<◌, ◌≤◌};
+ghost use Rattle.storage_state.specs.Energy.{caps_of as caps, energy_after as energy_then, carried};
+
+use crate::storages::Caps;
+use system_model::Storage;
+
+/// The caps of an up storage that holds this energy in kWh.
+pub(crate) fn caps_of(storage: &Storage, energy: u32) -> Caps
+    requires some { 0 < storage.now.charge_eff }
+    requires most { energy ≤ storage.now.energy }
+    ensures { result ≡ caps storage.now energy }
+{
+    let room = (storage.energy - energy) / u32::from(storage.charge_eff);
+    let stored = u64::from(energy) * u64::from(storage.discharge_eff) / 1_000_000;
+    Caps {
+        charge: storage.charge.min(room),
+        discharge: u64::from(storage.discharge).min(stored) as u32,
+    }
+}
+
+/// The energy in kWh after an hour with this charge and discharge in MW. What is taken is rounded up.
+pub(crate) fn energy_after(storage: &Storage, energy: u32, charge: u32, discharge: u32) -> u32
+    requires most { energy ≤ storage.now.energy }
+    requires eff { 0 < storage.now.discharge_eff }
+    requires charge { charge ≤ (caps storage.now energy).charge }
+    requires discharge { discharge ≤ (caps storage.now energy).discharge }
+    ensures value { result ≡ energy_then storage.now energy charge discharge }
+    ensures most { result ≤ storage.now.energy }
+{
+    let taken = (u64::from(discharge) * 1_000_000).div_ceil(u64::from(storage.discharge_eff));
+    energy - taken as u32 + charge * u32::from(storage.charge_eff)
+}
+
+/// The energy in kWh that is kept until the next hour.
+pub(crate) fn kept(storage: &Storage, energy: u32) -> u32
+    requires { storage.now.carry ≤ 1000 }
+    ensures value { result ≡ carried storage.now energy }
+    ensures most { result ≤ energy }
+{
+    (u64::from(energy) * u64::from(storage.carry) / 1_000) as u32
+}
