@@ -1,3 +1,4 @@
 pub mod Rounds
 pub mod Bounds
 pub mod PlacesLemmas
+pub mod ShareLaws

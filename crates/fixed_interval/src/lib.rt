@@ -5,10 +5,12 @@
 mod arithmetic;
 mod enclosure;
 mod places;
+mod share;
 
 pub use arithmetic::{add, mix, scale};
 pub use enclosure::Enclosure;
 pub use places::{put_high, put_low};
+pub use share::Share;
 
 #[cfg(test)]
 mod tests;

@@ -5,3 +5,4 @@ pub mod MixLaws
 pub mod LackLaws
 pub mod UnservedLaws
 pub mod TableLaws
+pub mod FleetLaws

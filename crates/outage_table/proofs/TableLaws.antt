@@ -98,7 +98,7 @@ table-push entries longer mixed units u table rated small countable filled long 
 }
 
 -- a vector that was lent as a slice holds what the slice then held
-pub given_back : (slice items : List Enclosure) (n : ℕ) → length slice ≡ n → length items ≡ n
+pub given_back : {X : Type 0} (slice items : List X) (n : ℕ) → length slice ≡ n → length items ≡ n
     → take n (slice ++ drop (length slice) items) ≡ slice
 given_back slice items n long short =
     let none : drop (length slice) items ≡ [] = drop_all (length slice) items (omega arith) in

@@ -4,6 +4,7 @@
 
 mod entries;
 mod error;
+mod fleet;
 mod limits;
 mod table;
 mod units;

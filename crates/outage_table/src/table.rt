@@ -8,6 +8,7 @@ ghost use Rattle.outage_table.specs.Refusal.{AnswersTotal};
 
 use crate::entries::{lengthen, mix_all};
 use crate::error::AddError;
+use crate::fleet::entries_of;
 use crate::limits::{LARGEST_TOTAL, ONE};
 use crate::units::PooledUnit;
 use fixed_interval::{Enclosure, add};
@@ -60,14 +61,14 @@ impl OutageTable {
         requires small { total_capacity units.now ≤ MOST_TABLE_MW }
         ensures { IfOk result (λ table. table ≡ units.now) }
     {
-        let mut table = OutageTable::empty(alloc)?;
-        for unit in units {
-            match table.add_unit(unit.capacity, unit.rates) {
-                Ok(()) => {}
-                Err(_) => return Err(OutOfMemory),
-            }
+        if units.len() >= u32::MAX as usize {
+            return Err(OutOfMemory);
         }
-        Ok(table)
+        let entries = entries_of(alloc, units)?;
+        Ok(OutageTable {
+            units: Vec::from_slice(alloc, units)?,
+            entries,
+        })
     }
 
     /// Adds a unit of so many MW after the others. A refusal leaves the table as it was.
