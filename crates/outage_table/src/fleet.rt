@@ -79,10 +79,16 @@ fn mix_high(ends: &mut [u64], capacity: usize, share: Share)
     requires { AreFalling ends.old }
     ensures { (x : ℕ) → x < length ends.old → slice_index ends.new x ≡ moved ceil_div share.out share.all capacity ends.old x }
 {
-    for x in (0..ends.len()).rev() {
+    let near = capacity.min(ends.len());
+    'far: for x in (near..ends.len()).rev() {
         let up_end = ends[x];
-        let out_end = ends[x.saturating_sub(capacity)];
+        let out_end = ends[x - capacity];
         ends[x] = up_end + share.ceil(out_end - up_end);
+    }
+    'near: for x in (0..near).rev() {
+        let up_end = ends[x];
+        let first = ends[0];
+        ends[x] = up_end + share.ceil(first - up_end);
     }
 }
 

@@ -4,8 +4,15 @@ use Rattle.outage_table.specs.Fleet.{moved}
 use Rattle.outage_table.proofs.fleet.mix_high.Given as goal
 
 -- those below are still as they were, and the others moved
-abbrev pub invariant-loop-x : goal.invariant-loop-x
-invariant-loop-x l = record {
-  still : (k : ℕ) → k < l.x → get_or l.ends k 0 ≡ get_or l.initial.ends k 0;
-  done : (k : ℕ) → l.x ≤ k → k < length l.initial.ends → get_or l.ends k 0 ≡ moved ceil_div l.share.out l.share.all l.capacity l.initial.ends k;
+abbrev pub invariant-far : goal.invariant-far
+invariant-far l = record {
+  near : l.near ≤ l.x;
+  still : (k : ℕ) → k < l.x → get_or l.ends k 0 ≡ get_or l.fn.ends k 0;
+  done : (k : ℕ) → l.x ≤ k → k < length l.fn.ends → get_or l.ends k 0 ≡ moved ceil_div l.share.out l.share.all l.capacity l.fn.ends k;
+}
+
+abbrev pub invariant-near : goal.invariant-near
+invariant-near l = record {
+  still : (k : ℕ) → k < l.x → get_or l.ends k 0 ≡ get_or l.fn.ends k 0;
+  done : (k : ℕ) → l.x ≤ k → k < length l.fn.ends → get_or l.ends k 0 ≡ moved ceil_div l.share.out l.share.all l.capacity l.fn.ends k;
 }
