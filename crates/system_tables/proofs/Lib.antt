@@ -8,3 +8,7 @@ pub mod SoFar
 pub mod HourLaws
 pub mod OutcomeLaws
 pub mod DigitLaws
+pub mod ColumnOrderLaws
+pub mod TableOrderLaws
+pub mod HourOrderLaws
+pub mod SameColumnsLaws

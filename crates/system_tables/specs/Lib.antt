@@ -14,3 +14,4 @@ pub mod Lines
 pub mod Storages
 pub mod Hours
 pub mod Tables
+pub mod SameColumns

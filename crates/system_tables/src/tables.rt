@@ -2,6 +2,7 @@
 ghost use Rattle.std.specs.Prelude.{◌≡◌, ◌<◌, [], OnOk, IsSome};
 ghost use Rattle.system_model.specs.System.{no_parts, zone_count, hour_count};
 ghost use Rattle.system_tables.specs.Outcome.{Gives, GivesNow};
+ghost use Rattle.system_tables.specs.SameColumns.{HaveSameColumns};
 ghost use Rattle.system_tables.specs.Tables.{bytes_of, system_of, HaveOneOutcome, HaveSameRecords};
 
 use crate::faults::ReadError;
@@ -63,7 +64,7 @@ fn read_tables(
 ///
 /// Tables are taken in the order of `TableName`, rows in their order, and columns in the order of the table's
 /// definition, whatever their order in the file is. Want of memory is an answer of its own.
-#[tactic(auto, using(crate::proofs::OutcomeLaws::one_outcome, crate::proofs::OutcomeLaws::same_records))]
+#[tactic(auto, using(crate::proofs::SameColumnsLaws::table_laws))]
 pub fn read_system(alloc: Global, tables: &TableBytes) -> Result<System, ReadError>
     requires zones { IsSome tables.now.zones }
     requires units { IsSome tables.now.units }
@@ -74,6 +75,9 @@ pub fn read_system(alloc: Global, tables: &TableBytes) -> Result<System, ReadErr
     ensures one_outcome { HaveOneOutcome tables.now }
     // Quotes, spaces and line ends say nothing.
     ensures same_records { (other : TableBytes) → HaveSameRecords tables.now other →
+        system_of other ≡ system_of tables.now }
+    // The order of columns and further columns say nothing.
+    ensures same_columns { (other : TableBytes) → HaveSameColumns tables.now other →
         system_of other ≡ system_of tables.now }
 {
     let mut draft = Draft::new(alloc);
