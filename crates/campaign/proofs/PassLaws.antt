@@ -1,5 +1,5 @@
 -- What the calls of passes come to, and what their soundness tells.
-use Rattle.std.proofs.Common.{◌≡◌, ℕ, ◌+◌, ◌-◌, ◌<◌, ◌≤◌, ◌==◌, inl, inr, Bool, true, false, ◌||◌, not, List, [], ◌∷◌, ◌++◌, length, map, min, nat_lt, refl, ap, sym, ◌∙◌, subst, arith, append_assoc}
+use Rattle.std.proofs.Common.{◌≡◌, ◌≢◌, ◌&&◌, ℕ, ◌+◌, ◌-◌, ◌<◌, ◌≤◌, ◌==◌, inl, inr, Bool, true, false, ◌||◌, not, List, [], ◌∷◌, ◌++◌, length, map, min, nat_lt, refl, ap, sym, ◌∙◌, subst, arith, append_assoc}
 use Rattle.std.proofs.lemmas.Bool.{cases_Bool, eq-eqb, ne_eqb, ltb-true, and_parts, or_left, or_right, false≢true, false_from_ne_true}
 use Rattle.std.proofs.lemmas.List.{append-nil}
 use Rattle.ra_base.specs.declared.limits.TheConstants.{MOST_SAMPLES}
@@ -10,7 +10,7 @@ use Rattle.campaign_core.specs.declared.call.Call.{Call}
 use Rattle.campaign_core.specs.declared.call.Call.TheVariants.{Claim, Extend, Deposit}
 use Rattle.campaign_core.specs.declared.call.Call.TheVariants.{Interim as AskInterim}
 use Rattle.campaign_core.specs.declared.call.Reply.{Reply}
-use Rattle.campaign_core.specs.declared.call.Reply.TheVariants.{Range, Idle, Drained, Cancelled, Now, Deposited, Interim}
+use Rattle.campaign_core.specs.declared.call.Reply.TheVariants.{Range, Idle, Drained, Cancelled, Now, Sealed, TooMany, Deposited, Interim}
 use Rattle.campaign_core.specs.declared.call.Entry.{Entry}
 use Rattle.campaign_core.specs.Ranges.{range, samples_of, has_range, is_same, without, total, AreSame, AreDisjoint, runs_of}
 use Rattle.campaign_core.specs.Joining.{Spaced}
@@ -26,7 +26,11 @@ use Rattle.turn_book.specs.declared.view.View.{View}
 use Rattle.turn_book.specs.Words.{IsGate}
 use Rattle.turn_book.specs.Views.{takes_exchange, call_between, IsExchange, with_call, with_hold, owns, IsSound, Sees, Makes, Looks, Takes, Deposits}
 use Rattle.turn_book.proofs.SoundLaws.{own_deposit, gate_seen}
-use Rattle.campaign.specs.Passes.{Says}
+use Rattle.campaign.specs.declared.calls.Claim.{Claim as Answer}
+use Rattle.campaign.specs.declared.calls.Claim.TheVariants.{Cancelled as Stopped, Drained as Empty, Idle as NoneLeft, Range as Gives, Moved}
+use Rattle.campaign.specs.declared.calls.Extend.{Extend as Extension}
+use Rattle.campaign.specs.declared.calls.Extend.TheVariants.{Cancelled as Closed, Sealed as Shut, TooMany as Over, Now as Raised, Moved as Crossed}
+use Rattle.campaign.specs.Passes.{Saw, Says, Claims, Extends, KeepsOut, KeepsOthers}
 
 -- ---- gates
 
@@ -75,6 +79,11 @@ extend_leads block more g small m goes unsealed fits =
     (subst (λ (r : Reply). IsGate g × IsGate next × (takes_exchange r ≡ true) × (next ≡ gate_after g (Extend more) r)) (sym reply)
     (small, (omega (arith, small.0), fits), refl,
     gate_is g.next (g.next + 0) (g.target + more) (g.target + more) g.sealed (g.sealed || false) g.cancelled (g.cancelled || false) (omega arith) refl (sym (or_nothing g.sealed)) (sym (or_nothing g.cancelled))))
+
+-- a range that begins elsewhere is another
+pub elsewhere : (first count : ℕ) (r : SampleRange) → r.first ≢ first → has_range (deposit_in (Deposit first count)) r ≡ false
+elsewhere first count r ne =
+    has-one (range first count) r ∙ false_from_ne_true (is_same (range first count) r) (λ e. ne (sym (ap (λ (s : SampleRange). s.first) (same_is (range first count) r e))))
 
 module _ {B : Type 0} where
   -- a gate that was looked at is within the limits
@@ -242,17 +251,28 @@ module _ {B : Type 0} where
       ap (λ (u : View B). has_range (out_of u.calls) r) says.view
       ∙ (has-without (deposits_of calls) (ranges_of calls) r ∙ (ap (λ b. has_range (ranges_of calls) r && not b) deposits ∙ rw (given, parts.1) refl))
 
-  pub claim_keeps : (v : View B) (answer : Answer) (w : View B) → Claims v answer w → (r : SampleRange) → has_range (out_of v.calls) r ≡ true → has_range (out_of w.calls) r ≡ true
+  pub says_keeps : (v : View B) (call : Call) (reply : Reply) (w : View B) → Says v call reply w → ((r : SampleRange) → has_range (deposit_in call) r ≡ false) → KeepsOut v w
+  says_keeps v call reply w says other r has = out_stays v call reply w says r (other r) has
+
+  pub deposit_keeps : (v : View B) (first count : ℕ) (reply : Reply) (w : View B) → Says v (Deposit first count) reply w → KeepsOthers first v w
+  deposit_keeps v first count reply w says r ne has = out_stays v (Deposit first count) reply w says r (elsewhere first count r ne) has
+
+  pub saw_keeps : (v w : View B) → Saw v w → KeepsOut v w
+  saw_keeps v w saw r has = ap (λ (u : View B). has_range (out_of u.calls) r) saw.view ∙ has
+
+  pub extend_keeps : (v : View B) (more : ℕ) (answer : Extension) (w : View B) → Extends v more answer w → KeepsOut v w
+  extend_keeps v more Closed w says r has = out_stays v (Extend more) Cancelled w says r (has-nil r) has
+  extend_keeps v more Shut w says r has = out_stays v (Extend more) Sealed w says r (has-nil r) has
+  extend_keeps v more (Over target) w says r has = out_stays v (Extend more) (TooMany target) w says r (has-nil r) has
+  extend_keeps v more (Raised target) w says r has = out_stays v (Extend more) (Now target) w says r (has-nil r) has
+  extend_keeps v more (Crossed before after) w moves r has = ap (λ (u : View B). has_range (out_of u.calls) r) moves.view ∙ has
+
+  pub claim_keeps : (v : View B) (answer : Answer) (w : View B) → Claims v answer w → KeepsOut v w
   claim_keeps v Stopped w says r has = out_stays v Claim Cancelled w says r (has-nil r) has
   claim_keeps v Empty w says r has = out_stays v Claim Drained w says r (has-nil r) has
   claim_keeps v NoneLeft w says r has = out_stays v Claim Idle w says r (has-nil r) has
   claim_keeps v (Gives share) w says r has = out_stays v Claim (Range share.first share.count) w says r (has-nil r) has
   claim_keeps v (Moved before after) w moves r has = ap (λ (u : View B). has_range (out_of u.calls) r) moves.view ∙ has
-
--- a range that begins elsewhere is another
-pub elsewhere : (first count : ℕ) (r : SampleRange) → r.first ≢ first → has_range (deposit_in (Deposit first count)) r ≡ false
-elsewhere first count r ne =
-    has-one (range first count) r ∙ false_from_ne_true (is_same (range first count) r) (λ e. ne (sym (ap (λ (s : SampleRange). s.first) (same_is (range first count) r e))))
 
 pub range_is : (first count : ℕ) (s : SampleRange) → first ≡ s.first → count ≡ s.count → range first count ≡ s
 range_is first count s e f = rw (e, f) refl

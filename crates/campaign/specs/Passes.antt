@@ -93,6 +93,15 @@ module _ {B : Type 0} where
   HasOut (Range share) w = has_range (out_of w.calls) share ≡ true
   HasOut other w = Unit {0}
 
+  -- what was out is out still
+  abbrev pub KeepsOut : View B → View B → Type 0
+  KeepsOut v w = (r : SampleRange) → has_range (out_of v.calls) r ≡ true → has_range (out_of w.calls) r ≡ true
+
+  -- the same but for ranges that begin at a sample
+  abbrev pub KeepsOthers : ℕ → View B → View B → Type 0
+  KeepsOthers first v w =
+      (r : SampleRange) → r.first ≢ first → has_range (out_of v.calls) r ≡ true → has_range (out_of w.calls) r ≡ true
+
   -- what an extension did, by its answer
   abbrev pub Extends : View B → ℕ → Extend → View B → Type 0
   Extends v more NoneCancelled w = Says v (AskExtend more) IsCancelled w

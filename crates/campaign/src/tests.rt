@@ -1,20 +1,17 @@
-ghost use Rattle.std.specs.Prelude.{◌≡◌, ◌≢◌, ◌≤◌, ◌∷◌, [], true, IfOk};
-ghost use Rattle.std.specs.Thread.{IsSync};
+ghost use Rattle.std.specs.Prelude.{◌≡◌, ◌≤◌, ◌∷◌, [], true, IfOk};
 ghost use Rattle.ra_base.specs.declared.limits.TheConstants.{MOST_SAMPLES, MOST_BLOCK};
-ghost use Rattle.campaign_core.specs.declared.run.SampleRange.{SampleRange};
 ghost use Rattle.campaign_core.specs.Ranges.{has_range, AreSame};
 ghost use Rattle.campaign_core.specs.History.{out_of};
 ghost use Rattle.turn_book.specs.Views.{IsSameSeat};
-ghost use Rattle.campaign.specs.Passes.{pass_of, IsFirst, IsOf};
+ghost use Rattle.campaign.specs.Passes.{pass_of, IsFirst, IsOf, KeepsOthers, KeepsOut};
 
-use crate::{Campaign, Claim, Extend, Finished, Pass};
-use campaign_core::{Done, Run, SampleRange, Share, Work};
+use crate::{Campaign, Claim, Extend, Interim, NotFinished, Pass};
+use campaign_core::{Done, SampleRange, Share, Work};
 use ra_base::OutOfMemory;
 use std::alloc::Global;
 use std::process::Abort;
 use std::sync::Wait;
 use std::test::Fail;
-use std::thread::{Threads, join};
 
 // A work whose sum is the list of its ranges, and whose samples are enough where it is told so.
 #[derive(Drop)]
@@ -85,22 +82,25 @@ fn claimed(rt: &impl Abort, campaign: &Campaign<Listing>, pass: &mut Pass<Listin
     requires { IsOf campaign.now pass.old }
     ensures pass { IsOf campaign.now pass.new }
     ensures out { has_range (out_of (pass_of pass.new).calls) result ≡ true }
-    ensures keeps { (r : SampleRange) → has_range (out_of (pass_of pass.old).calls) r ≡ true
-        → has_range (out_of (pass_of pass.new).calls) r ≡ true }
+    ensures keeps { KeepsOut (pass_of pass.old) (pass_of pass.new) }
     ensures same { IsSameSeat (pass_of pass.old) (pass_of pass.new) }
 {
     match campaign.claim(pass) {
         Claim::Range(share) => share,
-        Claim::Cancelled | Claim::Drained | Claim::Idle | Claim::Moved { .. } => {
-            panic!(rt; "no share")
-        }
+        Claim::Cancelled => panic!(rt; "cancelled"),
+        Claim::Drained => panic!(rt; "drained"),
+        Claim::Idle => panic!(rt; "idle"),
+        Claim::Moved {
+            before: _,
+            after: _,
+        } => panic!(rt; "moved"),
     }
 }
 
 // The share with the list of its range.
-fn done(alloc: Global, share: Share) -> Result<Done<Listing>, Fail>
-    ensures share { IfOk result (λ done. done.share ≡ share) }
-    ensures sum { IfOk result (λ done. AreSame done.sum.items (share ∷ [])) }
+fn done(rt: &impl Abort, alloc: Global, share: Share) -> Done<Listing>
+    ensures share { result.share ≡ share }
+    ensures sum { AreSame result.sum.items (share ∷ []) }
 {
     let range = SampleRange {
         first: share.first(),
@@ -108,35 +108,174 @@ fn done(alloc: Global, share: Share) -> Result<Done<Listing>, Fail>
     };
     let mut list = Vec::new(alloc);
     match list.push(range) {
-        Ok(()) => Ok(Done::of(share, list)),
-        Err(none) => {
-            share.abandon();
-            Err(none.into())
-        }
+        Ok(()) => Done::of(share, list),
+        Err(_none) => panic!(rt; "no memory"),
     }
 }
 
-fn deposited<R: Wait>(
+// A deposit of a share that is out.
+fn deposited<R: Wait + Abort>(
     rt: &R,
     alloc: Global,
     campaign: &Campaign<Listing>,
     pass: &mut Pass<Listing>,
     share: Share,
-) -> Result<u32, Fail>
+) -> u32
     requires pass { IsOf campaign.now pass.old }
     requires out { has_range (out_of (pass_of pass.old).calls) share ≡ true }
     ensures pass { IsOf campaign.now pass.new }
-    ensures keeps { IfOk result (λ number. (r : SampleRange) → r.first ≢ share.first
-        → has_range (out_of (pass_of pass.old).calls) r ≡ true
-        → has_range (out_of (pass_of pass.new).calls) r ≡ true) }
+    ensures keeps { KeepsOthers share.first (pass_of pass.old) (pass_of pass.new) }
     ensures same { IsSameSeat (pass_of pass.old) (pass_of pass.new) }
 {
-    let done = done(alloc, share)?;
+    let done = done(rt, alloc, share);
     match campaign.deposit(rt, pass, done) {
-        Ok(number) => Ok(number),
-        Err((done, none)) => {
-            done.abandon();
-            Err(none.into())
+        Ok(number) => number,
+        Err((_done, _none)) => panic!(rt; "no memory"),
+    }
+}
+
+// How a claim is refused. A share is given up.
+fn refused(campaign: &Campaign<Listing>, pass: &mut Pass<Listing>) -> &'static str
+    requires { IsOf campaign.now pass.old }
+    ensures pass { IsOf campaign.now pass.new }
+    ensures keeps { KeepsOut (pass_of pass.old) (pass_of pass.new) }
+    ensures same { IsSameSeat (pass_of pass.old) (pass_of pass.new) }
+{
+    match campaign.claim(pass) {
+        Claim::Range(share) => {
+            share.abandon();
+            "range"
+        }
+        Claim::Cancelled => "cancelled",
+        Claim::Drained => "drained",
+        Claim::Idle => "idle",
+        Claim::Moved {
+            before: _,
+            after: _,
+        } => "moved",
+    }
+}
+
+fn extended(campaign: &Campaign<Listing>, pass: &mut Pass<Listing>, more: u32) -> Extend
+    requires pass { IsOf campaign.now pass.old }
+    requires more { (1 ≤ more) × (more ≤ MOST_SAMPLES) }
+    ensures pass { IsOf campaign.now pass.new }
+    ensures keeps { KeepsOut (pass_of pass.old) (pass_of pass.new) }
+    ensures same { IsSameSeat (pass_of pass.old) (pass_of pass.new) }
+{
+    campaign.extend(pass, more)
+}
+
+fn cancelled(campaign: &Campaign<Listing>, pass: &mut Pass<Listing>)
+    requires { IsOf campaign.now pass.old }
+    ensures pass { IsOf campaign.now pass.new }
+    ensures keeps { KeepsOut (pass_of pass.old) (pass_of pass.new) }
+    ensures same { IsSameSeat (pass_of pass.old) (pass_of pass.new) }
+{
+    campaign.cancel(pass);
+}
+
+// A report.
+fn reported<R: Wait + Abort>(
+    rt: &R,
+    alloc: Global,
+    campaign: &Campaign<Listing>,
+    pass: &mut Pass<Listing>,
+) -> Interim<Listing>
+    requires { IsOf campaign.now pass.old }
+    ensures pass { IsOf campaign.now pass.new }
+    ensures keeps { KeepsOut (pass_of pass.old) (pass_of pass.new) }
+    ensures same { IsSameSeat (pass_of pass.old) (pass_of pass.new) }
+{
+    match campaign.interim(rt, alloc, pass) {
+        Ok(report) => report,
+        Err(_none) => panic!(rt; "no memory"),
+    }
+}
+
+// The runs of a report as text.
+fn check(rt: &impl Abort, alloc: Global, report: &Interim<Listing>, runs: &str) -> Result<(), Fail> {
+    assert_eq!(rt; format!(in alloc; "{:?}", report.runs)?.as_str(), runs);
+    assert!(rt; report.enough != report.runs.is_empty());
+    Ok(())
+}
+
+#[test]
+fn one_pass_is_answered_as_worked_out(rt: HostRuntime) -> Result<(), Fail> {
+    let alloc = rt.alloc();
+    let (campaign, mut pass) = opened(alloc, 5, 2)?;
+    let first = claimed(&rt, &campaign, &mut pass);
+    claimed(&rt, &campaign, &mut pass).abandon();
+    let third = claimed(&rt, &campaign, &mut pass);
+    let idle = refused(&campaign, &mut pass);
+    let now = extended(&campaign, &mut pass, 3);
+    let fourth = claimed(&rt, &campaign, &mut pass);
+    assert_eq!(rt; idle, "idle");
+    assert!(rt; now == Extend::Now { target: 8 });
+    assert_eq!(rt; first.first(), 0);
+    assert_eq!(rt; third.first(), 4);
+    assert_eq!(rt; fourth.first(), 5);
+    let counts = [first.count(), third.count(), fourth.count()];
+    let one = deposited(&rt, alloc, &campaign, &mut pass, fourth);
+    let two = deposited(&rt, alloc, &campaign, &mut pass, first);
+    let early = reported(&rt, alloc, &campaign, &mut pass);
+    cancelled(&campaign, &mut pass);
+    let stopped = refused(&campaign, &mut pass);
+    let three = deposited(&rt, alloc, &campaign, &mut pass, third);
+    assert!(rt; counts == [2, 1, 2]);
+    assert!(rt; one == 1 && two == 2 && three == 3);
+    assert_eq!(rt; stopped, "cancelled");
+    assert!(rt; extended(&campaign, &mut pass, 1) == Extend::Cancelled);
+    check(
+        &rt,
+        alloc,
+        &early,
+        "Runs { list: [Run { first: 0, last: 1 }, Run { first: 5, last: 6 }] }",
+    )?;
+    let late = reported(&rt, alloc, &campaign, &mut pass);
+    check(
+        &rt,
+        alloc,
+        &late,
+        "Runs { list: [Run { first: 0, last: 1 }, Run { first: 4, last: 6 }] }",
+    )
+}
+
+#[test]
+fn passes_claim_in_turn_and_are_joined(rt: HostRuntime) -> Result<(), Fail> {
+    let alloc = rt.alloc();
+    let (campaign, mut pass) = opened(alloc, 6, 2)?;
+    let mut other = campaign.split_pass(&mut pass);
+    let first = claimed(&rt, &campaign, &mut pass);
+    let second = claimed(&rt, &campaign, &mut other);
+    let third = claimed(&rt, &campaign, &mut pass);
+    assert_eq!(rt; third.first(), 4);
+    let places = [first.first(), second.first()];
+    first.abandon();
+    third.abandon();
+    let one = deposited(&rt, alloc, &campaign, &mut other, second);
+    assert!(rt; places == [0, 2] && one == 1);
+    campaign.seal(&mut pass);
+    assert_eq!(rt; refused(&campaign, &mut other), "drained");
+    assert!(rt; extended(&campaign, &mut other, 1) == Extend::Sealed);
+    match campaign.finish(pass) {
+        Ok(_end) => panic!(rt; "finished early"),
+        Err(not) => {
+            let NotFinished {
+                campaign,
+                mut pass,
+                made,
+                joined,
+            } = not;
+            assert!(rt; made == 2 && joined == 1);
+            campaign.join_pass(&mut pass, other);
+            let Ok(end) = campaign.finish(pass) else {
+                panic!(rt; "not finished")
+            };
+            assert!(rt; end.gate.sealed && end.gate.next == 6);
+            assert_eq!(rt; end.runs.len(), 1);
+            assert_eq!(rt; end.sum.len(), 1);
+            Ok(())
         }
     }
 }
