@@ -55,8 +55,8 @@ calls_between n g h k p q same =
     let first : calls_of n h ≡ calls_of n g ++ calls_of n p.0 = ap (calls_of n) (sym p.1) ∙ calls-append n g p.0 in
     let second : calls_of n k ≡ calls_of n h ++ calls_of n q.0 = ap (calls_of n) (sym q.1) ∙ calls-append n h q.0 in
     let none_new : calls_of n p.0 ≡ [] =
-        nil_from_length (calls_of n p.0)
-        (omega (arith, ap length first, ap length second, length-append (calls_of n g) (calls_of n p.0), length-append (calls_of n h) (calls_of n q.0), ap length same)) in
+    nil_from_length (calls_of n p.0)
+    (omega (arith, ap length first, ap length second, length-append (calls_of n g) (calls_of n p.0), length-append (calls_of n h) (calls_of n q.0), ap length same)) in
     first ∙ (ap (λ l. calls_of n g ++ l) none_new ∙ append-nil (calls_of n g))
 
 -- who has no call in a history has none in its beginnings
@@ -76,18 +76,21 @@ given_push opening block b h e sound follows before =
   where
     g : Gate
     g = gate_of opening h
+
     nothing : AreFilled [] × ((w : ℕ → ℕ) → total w [] + weight_of w (range 0 (gate_of opening h).next) ≡ weight_of w (range 0 ((gate_of opening h).next + 0)))
     nothing = (tt, λ w. let z : (gate_of opening h).next + 0 ≡ (gate_of opening h).next = omega arith in rw z (omega (arith, total-nil w)))
+
     by_call : (call : Call) → AreFilled (range_in (reply_of block (gate_of opening h) (deposits_of h) call)) × ((w : ℕ → ℕ) → total w (range_in (reply_of block (gate_of opening h) (deposits_of h) call)) + weight_of w (range 0 (gate_of opening h).next) ≡ weight_of w (range 0 ((gate_of opening h).next + claimed_in (reply_of block (gate_of opening h) (deposits_of h) call))))
     by_call Claim =
         claim_cases block (gate_of opening h) (λ reply. AreFilled (range_in reply) × ((w : ℕ → ℕ) → total w (range_in reply) + weight_of w (range 0 (gate_of opening h).next) ≡ weight_of w (range 0 ((gate_of opening h).next + claimed_in reply))))
         (λ x. nothing) (λ x y z. nothing) (λ x y z. nothing)
         (λ x some.
-            let count = min block ((gate_of opening h).target - (gate_of opening h).next) in
-            let next = (gate_of opening h).next in
-            ((omega (arith, sound.next, b.0, some), tt),
-            λ w. let cut : weight_of w (range 0 (next + count)) ≡ weight_of w (range 0 next) + weight_of w (range next count) = let e : 0 + next ≡ next = omega arith in rw e at (weight-cut w 0 next count) in
-                omega (arith, total-one w (range next count), cut)))
+        let count = min block ((gate_of opening h).target - (gate_of opening h).next) in
+        let next = (gate_of opening h).next in (
+          (omega (arith, sound.next, b.0, some), tt),
+          λ w. let cut : weight_of w (range 0 (next + count)) ≡ weight_of w (range 0 next) + weight_of w (range next count) = let e : 0 + next ≡ next = omega arith in rw e at (weight-cut w 0 next count) in
+              omega (arith, total-one w (range next count), cut),
+        ))
     by_call (Extend more) =
         extend_cases (gate_of opening h) more (λ reply. AreFilled (range_in reply) × ((w : ℕ → ℕ) → total w (range_in reply) + weight_of w (range 0 (gate_of opening h).next) ≡ weight_of w (range 0 ((gate_of opening h).next + claimed_in reply))))
         (λ x. nothing) (λ x y. nothing) (λ x y z. nothing) (λ x y z. nothing)
@@ -104,11 +107,12 @@ ranges_given opening block o b =
     legal_by_pushes opening block (λ h. AreFilled (ranges_of h) × AreSame (ranges_of h) (range 0 (gate_of opening h).next ∷ []))
     (rw (ranges-nil, gate-nil opening) (tt, λ w. omega (arith, total-nil w, total-one w (range 0 0), weight-none w 0)))
     (λ h e legal follows before.
-        let sound = sound_history opening block o b h legal in
-        let new = given_push opening block b h e sound follows before in
-        rw (ranges_push h e, gate_push opening h e)
-        (filled_append (ranges_of h) (range_in e.reply) before.0 new.0,
-        λ w. omega (arith, total-append w (ranges_of h) (range_in e.reply), before.1 w, total-one w (range 0 (gate_of opening h).next), total-one w (range 0 ((gate_of opening h).next + claimed_in e.reply)), new.1 w)))
+    let sound = sound_history opening block o b h legal in
+    let new = given_push opening block b h e sound follows before in
+    rw (ranges_push h e, gate_push opening h e) (
+      filled_append (ranges_of h) (range_in e.reply) before.0 new.0,
+      λ w. omega (arith, total-append w (ranges_of h) (range_in e.reply), before.1 w, total-one w (range 0 (gate_of opening h).next), total-one w (range 0 ((gate_of opening h).next + claimed_in e.reply)), new.1 w),
+    ))
 
 -- ---- to whom they were given
 
