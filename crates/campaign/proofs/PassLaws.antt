@@ -63,9 +63,12 @@ claim_leads block count g small b goes some is =
     let call : call_between g next ≡ Claim = claim_between block count g small b some is in
     let reply : claim_reply block g ≡ Range g.next count = claim_range block g goes some ∙ ap (Range g.next) (sym is) in
     subst (λ (c : Call). IsGate g × IsGate next × (takes_exchange (reply_of block g [] c) ≡ true) × (next ≡ gate_after g c (reply_of block g [] c))) (sym call)
-    (subst (λ (r : Reply). IsGate g × IsGate next × (takes_exchange r ≡ true) × (next ≡ gate_after g Claim r)) (sym reply)
-    (small, (omega (arith, is, small.0), small.1), refl,
-    gate_is (g.next + count) (g.next + count) g.target (g.target + 0) g.sealed (g.sealed || false) g.cancelled (g.cancelled || false) refl (omega arith) (sym (or_nothing g.sealed)) (sym (or_nothing g.cancelled))))
+    (subst (λ (r : Reply). IsGate g × IsGate next × (takes_exchange r ≡ true) × (next ≡ gate_after g Claim r)) (sym reply) (
+      small,
+      (omega (arith, is, small.0), small.1),
+      refl,
+      gate_is (g.next + count) (g.next + count) g.target (g.target + 0) g.sealed (g.sealed || false) g.cancelled (g.cancelled || false) refl (omega arith) (sym (or_nothing g.sealed)) (sym (or_nothing g.cancelled)),
+    ))
 
 -- an extension that raises leads to the next gate
 pub extend_leads : (block more : ℕ) (g : Gate) → IsGate g → 1 ≤ more → g.cancelled ≡ false → g.sealed ≡ false → g.target + more ≤ MOST_SAMPLES
@@ -76,9 +79,12 @@ extend_leads block more g small m goes unsealed fits =
     let call : call_between g next ≡ Extend more = rw (eq-eqb g.next g.next refl) (ap Extend by) in
     let reply : extend_reply g more ≡ Now (g.target + more) = extend_now g more goes unsealed fits in
     subst (λ (c : Call). IsGate g × IsGate next × (takes_exchange (reply_of block g [] c) ≡ true) × (next ≡ gate_after g c (reply_of block g [] c))) (sym call)
-    (subst (λ (r : Reply). IsGate g × IsGate next × (takes_exchange r ≡ true) × (next ≡ gate_after g (Extend more) r)) (sym reply)
-    (small, (omega (arith, small.0), fits), refl,
-    gate_is g.next (g.next + 0) (g.target + more) (g.target + more) g.sealed (g.sealed || false) g.cancelled (g.cancelled || false) (omega arith) refl (sym (or_nothing g.sealed)) (sym (or_nothing g.cancelled))))
+    (subst (λ (r : Reply). IsGate g × IsGate next × (takes_exchange r ≡ true) × (next ≡ gate_after g (Extend more) r)) (sym reply) (
+      small,
+      (omega (arith, small.0), fits),
+      refl,
+      gate_is g.next (g.next + 0) (g.target + more) (g.target + more) g.sealed (g.sealed || false) g.cancelled (g.cancelled || false) (omega arith) refl (sym (or_nothing g.sealed)) (sym (or_nothing g.cancelled)),
+    ))
 
 -- a range that begins elsewhere is another
 pub elsewhere : (first count : ℕ) (r : SampleRange) → r.first ≢ first → has_range (deposit_in (Deposit first count)) r ≡ false
@@ -107,6 +113,7 @@ module _ {B : Type 0} where
     where
       made_look : takes_exchange (reply_of v.block g [] call) ≡ false → Looks v call g w → Makes v call g w
       made_look decides l = rw decides at l
+
       made : Makes v call g w → IsGate g
       made m =
           let sound_after : IsSound (with_call v (v.seen ++ m.between) (entry v.number call (reply_of v.block g (deposits_of (v.seen ++ m.between)) call))) = subst IsSound m.view m.sound in
@@ -122,28 +129,35 @@ module _ {B : Type 0} where
     where
       r : SampleRange
       r = range first count
+
       before : List Entry
       before = v.seen ++ says.between
+
       e : Entry
       e = entry v.number Claim (Range first count)
+
       calls : List Entry
       calls = v.calls ++ e ∷ []
+
       whole : IsSound (with_call v before e)
       whole = subst IsSound says.view sound
+
       given : has_range (ranges_of calls) r ≡ true
       given = ap (λ l. has_range l r) (ranges_push v.calls e) ∙ (has-append (ranges_of v.calls) (r ∷ []) r ∙ or_right (has_range (ranges_of v.calls) r) (has_range (r ∷ []) r) (has-one r r ∙ is_same-self r))
+
       untouched : without (deposits_of before) (r ∷ []) ≡ r ∷ []
       untouched =
           let legal = legal_front v.target v.block before e whole.legal in
           subst (λ (reply : Reply). without (deposits_of before) (range_in reply) ≡ range_in reply) (sym says.replied)
           (fresh (machine_at v.target v.block before) Claim (sound_history v.target v.block whole.target whole.block before legal))
+
       kept : has_range (deposits_of calls) r ≡ false
       kept =
           false_from_ne_true (has_range (deposits_of calls) r)
           (λ has.
-              let seen : has_range (deposits_of (before ++ e ∷ [])) r ≡ true = own_deposit (with_call v before e) whole r has in
-              let earlier : has_range (deposits_of before) r ≡ true = sym (ap (λ l. has_range l r) (deposits_push before e ∙ append-nil (deposits_of before))) ∙ seen in
-              cc (untouched, without-drops (deposits_of before) r [] earlier, without-nil (deposits_of before)))
+          let seen : has_range (deposits_of (before ++ e ∷ [])) r ≡ true = own_deposit (with_call v before e) whole r has in
+          let earlier : has_range (deposits_of before) r ≡ true = sym (ap (λ l. has_range l r) (deposits_push before e ∙ append-nil (deposits_of before))) ∙ seen in
+          cc (untouched, without-drops (deposits_of before) r [] earlier, without-nil (deposits_of before)))
 
   -- a range that an exchange of the gate gives is out
   pub exchange_out : (m : View B) (g : Gate) (count : ℕ) (w : View B) → IsGate g → 1 ≤ m.block → g.cancelled ≡ false → (g.next ≡ g.target → ⊥) → count ≡ min m.block (g.target - g.next)
@@ -167,11 +181,11 @@ module _ {B : Type 0} where
       let parts = sym (has-without (deposits_of v.calls) (ranges_of v.calls) r) ∙ has in
       let who = some_owner v.calls r (and_parts (has_range (ranges_of v.calls) r) (not (has_range (deposits_of v.calls) r)) parts).0 in
       let given : has_range (ranges_of v.seen) r ≡ true =
-          elim (cases_Bool (owns v who.0)) [
-            | inl own ↦ owned_given who.0 v.seen r (ap (λ l. has_range (ranges_of l) r) (sound.mine who.0 own) ∙ who.1)
-            | inr other ↦
-                absurd (false≢true (sym (ap (λ l. has_range (ranges_of l) r) (sound.others who.0 other) ∙ (ap (λ l. has_range l r) ranges-nil ∙ has-nil r)) ∙ who.1))
-          ] in
+      elim (cases_Bool (owns v who.0)) [
+        | inl own ↦ owned_given who.0 v.seen r (ap (λ l. has_range (ranges_of l) r) (sound.mine who.0 own) ∙ who.1)
+        | inr other ↦
+            absurd (false≢true (sym (ap (λ l. has_range (ranges_of l) r) (sound.others who.0 other) ∙ (ap (λ l. has_range l r) ranges-nil ∙ has-nil r)) ∙ who.1))
+      ] in
       has-without (deposits_of v.seen) (ranges_of v.seen) r ∙ rw (given, sound.out first count has) refl
 
   -- what is deposited stays disjoint with a range that is out
@@ -245,9 +259,9 @@ module _ {B : Type 0} where
       let calls = v.calls ++ e ∷ [] in
       let parts = and_parts (has_range (ranges_of v.calls) r) (not (has_range (deposits_of v.calls) r)) (sym (has-without (deposits_of v.calls) (ranges_of v.calls) r) ∙ has) in
       let given : has_range (ranges_of calls) r ≡ true =
-          ap (λ l. has_range l r) (ranges_push v.calls e) ∙ (has-append (ranges_of v.calls) (range_in reply) r ∙ or_left (has_range (ranges_of v.calls) r) (has_range (range_in reply) r) parts.0) in
+      ap (λ l. has_range l r) (ranges_push v.calls e) ∙ (has-append (ranges_of v.calls) (range_in reply) r ∙ or_left (has_range (ranges_of v.calls) r) (has_range (range_in reply) r) parts.0) in
       let deposits : has_range (deposits_of calls) r ≡ has_range (deposits_of v.calls) r =
-          ap (λ l. has_range l r) (deposits_push v.calls e) ∙ (has-append (deposits_of v.calls) (deposit_in call) r ∙ (ap (λ b. has_range (deposits_of v.calls) r || b) other ∙ or_nothing (has_range (deposits_of v.calls) r))) in
+      ap (λ l. has_range l r) (deposits_push v.calls e) ∙ (has-append (deposits_of v.calls) (deposit_in call) r ∙ (ap (λ b. has_range (deposits_of v.calls) r || b) other ∙ or_nothing (has_range (deposits_of v.calls) r))) in
       ap (λ (u : View B). has_range (out_of u.calls) r) says.view
       ∙ (has-without (deposits_of calls) (ranges_of calls) r ∙ (ap (λ b. has_range (ranges_of calls) r && not b) deposits ∙ rw (given, parts.1) refl))
 

@@ -1,4 +1,5 @@
-ghost use Rattle.std.specs.Prelude.{◌≡◌, ◌≤◌, ◌∷◌, [], true, IfOk};
+ghost use Rattle.std.specs.Prelude.{◌≡◌, ◌≢◌, ◌≤◌, ◌∷◌, [], true, IfOk};
+ghost use Rattle.std.specs.Thread.{IsSync};
 ghost use Rattle.ra_base.specs.declared.limits.TheConstants.{MOST_SAMPLES, MOST_BLOCK};
 ghost use Rattle.campaign_core.specs.Ranges.{has_range, AreSame};
 ghost use Rattle.campaign_core.specs.History.{out_of};
@@ -12,6 +13,7 @@ use std::alloc::Global;
 use std::process::Abort;
 use std::sync::Wait;
 use std::test::Fail;
+use std::thread::{Threads, join, yield_now};
 
 // A work whose sum is the list of its ranges, and whose samples are enough where it is told so.
 #[derive(Drop)]
@@ -42,11 +44,7 @@ impl Work for Listing {
         Ok(())
     }
 
-    fn copy(
-        &self,
-        alloc: Global,
-        sum: &Vec<SampleRange>,
-    ) -> Result<Vec<SampleRange>, OutOfMemory> {
+    fn copy(&self, alloc: Global, sum: &Vec<SampleRange>) -> Result<Vec<SampleRange>, OutOfMemory> {
         let mut copy = Vec::new(alloc);
         copy.extend_from_slice(sum.as_slice())?;
         Ok(copy)
@@ -194,7 +192,12 @@ fn reported<R: Wait + Abort>(
 }
 
 // The runs of a report as text.
-fn check(rt: &impl Abort, alloc: Global, report: &Interim<Listing>, runs: &str) -> Result<(), Fail> {
+fn check(
+    rt: &impl Abort,
+    alloc: Global,
+    report: &Interim<Listing>,
+    runs: &str,
+) -> Result<(), Fail> {
     assert_eq!(rt; format!(in alloc; "{:?}", report.runs)?.as_str(), runs);
     assert!(rt; report.enough != report.runs.is_empty());
     Ok(())
@@ -278,4 +281,134 @@ fn passes_claim_in_turn_and_are_joined(rt: HostRuntime) -> Result<(), Fail> {
             Ok(())
         }
     }
+}
+
+#[test]
+fn two_threads_do_the_work(rt: HostRuntime) -> Result<(), Fail> {
+    let alloc = rt.alloc();
+    let (campaign, mut pass) = opened(alloc, 9, 2)?;
+    let other = campaign.split_pass(&mut pass);
+    let (mut pass, other) = both_work(&rt, alloc, &campaign, pass, other);
+    campaign.join_pass(&mut pass, other);
+    let Ok(end) = campaign.finish(pass) else {
+        panic!(rt; "not finished")
+    };
+    assert!(rt; end.gate.next == 9 && end.gate.target == 9);
+    assert_eq!(rt; end.sum.len(), 5);
+    assert_eq!(rt;
+        format!(in alloc; "{:?}", end.runs)?.as_str(),
+        "Runs { list: [Run { first: 0, last: 8 }] }"
+    );
+    Ok(())
+}
+
+#[test]
+fn a_report_and_a_seal_stand_between(rt: HostRuntime) -> Result<(), Fail> {
+    let alloc = rt.alloc();
+    let (campaign, mut pass) = opened(alloc, 9, 2)?;
+    let other = campaign.split_pass(&mut pass);
+    let (mut pass, other) = work_and_watch(&rt, alloc, &campaign, pass, other);
+    campaign.join_pass(&mut pass, other);
+    let Ok(end) = campaign.finish(pass) else {
+        panic!(rt; "not finished")
+    };
+    assert!(rt; end.gate.sealed && end.gate.next >= 9 && end.gate.next <= end.gate.target);
+    assert!(rt; end.gate.target == 12 || end.gate.target == 9);
+    assert_eq!(rt; end.runs.len(), 1);
+    assert_eq!(rt; end.runs.get(0).first, 0);
+    Ok(())
+}
+
+fn both_work<R: Threads + Wait + Abort + Sync>(
+    rt: &R,
+    alloc: Global,
+    campaign: &Campaign<Listing>,
+    first: Pass<Listing>,
+    second: Pass<Listing>,
+) -> (Pass<Listing>, Pass<Listing>)
+    requires first { IsOf campaign.now first }
+    requires second { IsOf campaign.now second }
+    ensures first { IsOf campaign.now result.0 × IsSameSeat (pass_of first) (pass_of result.0) }
+    ensures second { IsOf campaign.now result.1 × IsSameSeat (pass_of second) (pass_of result.1) }
+{
+    join(
+        rt,
+        move || -> Pass<Listing>
+            requires { IsOf campaign.now first }
+            ensures { IsOf campaign.entry.now result × IsSameSeat (pass_of first) (pass_of result) }
+        { worked(rt, alloc, campaign, first) },
+        move || -> Pass<Listing>
+            requires { IsSync R.row × IsOf campaign.now second }
+            ensures { IsOf campaign.entry.now result × IsSameSeat (pass_of second) (pass_of result) }
+        { worked(rt, alloc, campaign, second) },
+    )
+}
+
+fn work_and_watch<R: Threads + Wait + Abort + Sync>(
+    rt: &R,
+    alloc: Global,
+    campaign: &Campaign<Listing>,
+    first: Pass<Listing>,
+    second: Pass<Listing>,
+) -> (Pass<Listing>, Pass<Listing>)
+    requires first { IsOf campaign.now first }
+    requires second { IsOf campaign.now second }
+    ensures first { IsOf campaign.now result.0 × IsSameSeat (pass_of first) (pass_of result.0) }
+    ensures second { IsOf campaign.now result.1 × IsSameSeat (pass_of second) (pass_of result.1) }
+{
+    join(
+        rt,
+        move || -> Pass<Listing>
+            requires { IsOf campaign.now first }
+            ensures { IsOf campaign.entry.now result × IsSameSeat (pass_of first) (pass_of result) }
+        { worked(rt, alloc, campaign, first) },
+        move || -> Pass<Listing>
+            requires { IsSync R.row × IsOf campaign.now second }
+            ensures { IsOf campaign.entry.now result × IsSameSeat (pass_of second) (pass_of result) }
+        { watched(rt, alloc, campaign, second) },
+    )
+}
+
+// Claims and deposits until nothing is left.
+fn worked<R: Wait + Abort>(
+    rt: &R,
+    alloc: Global,
+    campaign: &Campaign<Listing>,
+    mut pass: Pass<Listing>,
+) -> Pass<Listing>
+    requires { IsOf campaign.now pass }
+    ensures { IsOf campaign.now result × IsSameSeat (pass_of pass) (pass_of result) }
+{
+    for _ in rt.forever() {
+        match campaign.claim(&mut pass) {
+            Claim::Range(share) => {
+                deposited(rt, alloc, campaign, &mut pass, share);
+            }
+            Claim::Cancelled => return pass,
+            Claim::Drained => return pass,
+            Claim::Idle => return pass,
+            Claim::Moved {
+                before: _,
+                after: _,
+            } => yield_now(),
+        }
+    }
+    unreachable!()
+}
+
+// Reports, asks for more, and seals.
+fn watched<R: Wait + Abort>(
+    rt: &R,
+    alloc: Global,
+    campaign: &Campaign<Listing>,
+    mut pass: Pass<Listing>,
+) -> Pass<Listing>
+    requires { IsOf campaign.now pass }
+    ensures { IsOf campaign.now result × IsSameSeat (pass_of pass) (pass_of result) }
+{
+    let report = reported(rt, alloc, campaign, &mut pass);
+    assert!(rt; report.gate.next <= 9);
+    extended(campaign, &mut pass, 3);
+    campaign.seal(&mut pass);
+    pass
 }
