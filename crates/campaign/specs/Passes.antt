@@ -15,12 +15,20 @@ use Rattle.turn_book.specs.Views.{with_seen, with_call}
 use Rattle.turn_book.specs.Seated.{view_of, opening_of}
 use Rattle.turn_book.specs.Seated.{IsOf as IsSeatOf}
 use Rattle.campaign.specs.declared.book.Book.{Book}
-use Rattle.campaign.specs.declared.campaign.Campaign.{Campaign}
-use Rattle.campaign.specs.declared.campaign.Pass.{Pass}
+use Rattle.campaign.specs.declared.campaign.Shared.{Shared}
+use Rattle.campaign.specs.declared.campaign.Counted.{Counted}
 use Rattle.campaign.specs.declared.calls.Claim.{Claim}
 use Rattle.campaign.specs.declared.calls.Claim.TheVariants.{Cancelled, Drained, Idle, Range, Moved}
 use Rattle.campaign.specs.declared.calls.Extend.{Extend}
 use Rattle.campaign.specs.declared.calls.Extend.TheVariants.{Cancelled as NoneCancelled, Sealed, TooMany, Now, Moved as HasMoved}
+
+-- a campaign of a work and its sums
+abbrev pub Campaign : Type 0 → Type 0 → Type 0
+Campaign W S = Shared (Book W S) W W
+
+-- a pass of such a campaign
+abbrev pub Pass : Type 0 → Type 0 → Type 0
+Pass W S = Counted (Book W S)
 
 module _ {W S : Type 0} where
   -- the work of a campaign

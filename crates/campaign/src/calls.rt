@@ -7,7 +7,8 @@ ghost use Rattle.campaign_core.specs.History.{out_of};
 ghost use Rattle.turn_book.specs.Views.{IsSameSeat};
 ghost use Rattle.campaign.specs.Passes.{pass_of, work_of, IsOf, Claims, Extends, HasOut, Saw, Says};
 
-use crate::campaign::{Campaign, Pass};
+use crate::book::Book;
+use crate::campaign::{Pass, Shared};
 use campaign_core::{Call, Done, Gate, Run, Share, Work};
 use ra_base::OutOfMemory;
 use ra_base::limits::MOST_SAMPLES;
@@ -38,7 +39,7 @@ pub enum Extend {
     Moved { before: Gate, after: Gate },
 }
 
-impl<W: Work> Campaign<W> {
+impl<W: Work> Shared<Book<W>, W> {
     /// Asks for samples to run. It waits for nobody.
     pub fn claim(&self, pass: &mut Pass<W>) -> Claim
         requires { IsOf self.now pass.old }

@@ -4,30 +4,36 @@ ghost use Rattle.turn_book.specs.Views.{newcomer, opening_view, with_made, IsSam
 ghost use Rattle.campaign.specs.Passes.{block_of, pass_of, target_of, work_of, IsOf, IsFirst};
 
 use crate::book::Book;
-use campaign_core::Work;
+use campaign_core::{Booked, Work};
 use ra_base::OutOfMemory;
 use std::alloc::Global;
 use turn_book::{BookSeat, TurnBook};
 
 /// A campaign that runs. Contracts see its work, its opening target and its block.
+pub type Campaign<W> = Shared<Book<W>, W>;
+
+/// What one caller has seen and done. It may go to another thread.
+pub type Pass<W> = Counted<Book<W>>;
+
+/// A turn book with the work and the block of a campaign.
 #[derive(Drop)]
-pub struct Campaign<W: Work> {
-    pub(crate) book: TurnBook<Book<W>>,
+pub struct Shared<B: Booked, W> {
+    pub(crate) book: TurnBook<B>,
     pub(crate) work: W,
     pub(crate) block: u32,
 }
 
-/// What one caller has seen and done. It may go to another thread.
+/// A seat, with counts of the passes that were made and joined.
 #[derive(Drop)]
-pub struct Pass<W: Work> {
-    pub(crate) seat: BookSeat<Book<W>>,
+pub struct Counted<B> {
+    pub(crate) seat: BookSeat<B>,
     // Of the opening pass: how many passes were made, itself included.
     pub(crate) made: u32,
     // How many passes this one is, those that it took in included.
     pub(crate) joined: u32,
 }
 
-impl<W: Work> Campaign<W> {
+impl<W: Work> Shared<Book<W>, W> {
     /// A campaign of `target` samples that gives out `block` of them at a time, and its opening pass. Without
     /// memory the work comes back.
     pub fn open(
@@ -49,8 +55,8 @@ impl<W: Work> Campaign<W> {
         };
         match TurnBook::open(alloc, book, target, block) {
             Ok((book, seat)) => {
-                let campaign = Campaign { book, work, block };
-                let pass = Pass {
+                let campaign = Shared { book, work, block };
+                let pass = Counted {
                     seat,
                     made: 1,
                     joined: 1,
@@ -73,7 +79,7 @@ impl<W: Work> Campaign<W> {
     {
         let seat = self.book.split(&mut pass.seat);
         pass.made += 1;
-        Pass {
+        Counted {
             seat,
             made: 0,
             joined: 1,
@@ -88,7 +94,7 @@ impl<W: Work> Campaign<W> {
         ensures keep { IsOf self.now keep.new }
         ensures joined { TakesIn (pass_of keep.old) (pass_of other) (pass_of keep.new) }
     {
-        let Pass {
+        let Counted {
             seat,
             made: _,
             joined,

@@ -3,7 +3,8 @@ ghost use Rattle.campaign_core.specs.Ranges.{runs_of, samples_of};
 ghost use Rattle.campaign_core.specs.History.{gate_of, deposits_of};
 ghost use Rattle.campaign.specs.Passes.{pass_of, work_of, IsOf, IsWhole};
 
-use crate::campaign::{Campaign, Pass};
+use crate::book::Book;
+use crate::campaign::{Campaign, Counted, Pass, Shared};
 use campaign_core::{Gate, Runs, Work};
 use std::snapshot::Snapshot;
 use turn_book::Closed;
@@ -30,7 +31,7 @@ pub struct NotFinished<W: Work> {
     pub joined: u32,
 }
 
-impl<W: Work> Campaign<W> {
+impl<W: Work> Shared<Book<W>, W> {
     /// Ends the campaign of the opening pass, where it took in all others. It waits for nobody.
     pub fn finish(self, pass: Pass<W>) -> Result<Finished<W>, NotFinished<W>>
         requires pass { IsOf self pass }
@@ -57,12 +58,12 @@ impl<W: Work> Campaign<W> {
             });
         }
         let last = Snapshot::of(&pass);
-        let Campaign {
+        let Shared {
             book,
             work,
             block: _,
         } = self;
-        let Pass {
+        let Counted {
             seat,
             made: _,
             joined: _,
@@ -72,7 +73,7 @@ impl<W: Work> Campaign<W> {
             gate,
             deposits: _,
         } = book.close(seat);
-        let crate::book::Book {
+        let Book {
             work: _,
             ranges,
             sum,

@@ -11,7 +11,7 @@ mod reports;
 
 pub use book::Book;
 pub use calls::{Claim, Extend};
-pub use campaign::{Campaign, Pass};
+pub use campaign::{Campaign, Counted, Pass, Shared};
 pub use ending::{Finished, NotFinished};
 pub use reports::Interim;
 

@@ -5,7 +5,8 @@ ghost use Rattle.campaign_core.specs.Ranges.{samples_of};
 ghost use Rattle.turn_book.specs.Views.{IsSameSeat};
 ghost use Rattle.campaign.specs.Passes.{is_enough_of, pass_of, work_of, IsOf, Saw, Says};
 
-use crate::campaign::{Campaign, Pass};
+use crate::book::Book;
+use crate::campaign::{Pass, Shared};
 use campaign_core::{Call, Gate, Runs, Work};
 use ra_base::OutOfMemory;
 use std::alloc::Global;
@@ -22,7 +23,7 @@ pub struct Interim<W: Work> {
     pub enough: bool,
 }
 
-impl<W: Work> Campaign<W> {
+impl<W: Work> Shared<Book<W>, W> {
     /// Reports what was deposited so far. It may wait for the pass that has the book. Without memory no report
     /// was made.
     pub fn interim<R: Wait>(

@@ -2,7 +2,7 @@ use Rattle.std.proofs.Common.{arith}
 use Rattle.campaign_core.specs.declared.call.Call.TheVariants.{Extend}
 use Rattle.turn_book.specs.Seated.{view_of}
 use Rattle.campaign.proofs.PassLaws.{looks_gate, extend_leads}
-use Rattle.campaign.proofs.campaign.Campaign.extend.Goals as goal
+use Rattle.campaign.proofs.calls.Shared+Book+W+W.extend.Goals as goal
 
 pub overflow_add-target : goal.overflow_add-target
 overflow_add-target g c =

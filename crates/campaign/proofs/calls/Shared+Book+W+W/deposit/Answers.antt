@@ -9,7 +9,7 @@ use Rattle.turn_book.specs.Seated.{view_of}
 use Rattle.campaign.specs.Books.{IsBook}
 use Rattle.campaign.specs.Passes.{Says}
 use Rattle.campaign.proofs.PassLaws.{deposit_apart, says_deposit, out_taken, range_is}
-use Rattle.campaign.proofs.campaign.Campaign.deposit.Goals as goal
+use Rattle.campaign.proofs.calls.Shared+Book+W+W.deposit.Goals as goal
 
 pub add-requires-clause-book : goal.add-requires-clause-book
 add-requires-clause-book g c κs within =

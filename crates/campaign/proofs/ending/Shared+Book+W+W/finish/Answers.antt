@@ -4,7 +4,7 @@ use Rattle.campaign_core.specs.History.{deposits_of}
 use Rattle.turn_book.specs.Seated.{view_of}
 use Rattle.turn_book.proofs.SoundLaws.{few_joined, every_call}
 use Rattle.campaign.proofs.PassLaws.{deposits_apart, runs_stand}
-use Rattle.campaign.proofs.campaign.Campaign.finish.Goals as goal
+use Rattle.campaign.proofs.ending.Shared+Book+W+W.finish.Goals as goal
 
 pub close-book-requires-clause-all : goal.close-book-requires-clause-all
 close-book-requires-clause-all g c κs within =

@@ -4,8 +4,8 @@ use Rattle.campaign_core.specs.History.{deposits_of}
 use Rattle.turn_book.specs.Seated.{view_of}
 use Rattle.campaign.specs.Books.{IsBook}
 use Rattle.campaign.proofs.PassLaws.{deposits_apart, runs_stand, says_report, report_sample}
-use Rattle.campaign.proofs.campaign.Campaign.interim.Goals.{then-not-is_empty, else-not-is_empty}
-use Rattle.campaign.proofs.campaign.Campaign.interim.Goals as goal
+use Rattle.campaign.proofs.reports.Shared+Book+W+W.interim.Goals.{then-not-is_empty, else-not-is_empty}
+use Rattle.campaign.proofs.reports.Shared+Book+W+W.interim.Goals as goal
 
 pub of-runs-requires-clause-disjoint : goal.of-runs-requires-clause-disjoint
 of-runs-requires-clause-disjoint g c =

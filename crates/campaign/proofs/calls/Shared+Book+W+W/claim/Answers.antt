@@ -4,7 +4,7 @@ use Rattle.campaign_core.specs.Ranges.{has_range}
 use Rattle.campaign_core.specs.History.{out_of}
 use Rattle.turn_book.specs.Seated.{view_of}
 use Rattle.campaign.proofs.PassLaws.{looks_gate, claim_leads, exchange_out}
-use Rattle.campaign.proofs.campaign.Campaign.claim.Goals as goal
+use Rattle.campaign.proofs.calls.Shared+Book+W+W.claim.Goals as goal
 
 pub overflow_sub-before : goal.overflow_sub-before
 overflow_sub-before g c = (looks_gate c.args.pass.now.seat.seat.me.0 Claim c.look-before.result (view_of c.look-before.new.seat) c.look-before.ensures.looked c.requires.seat.sound).0
