@@ -167,7 +167,8 @@ struct LastTerms {
 
 fn read_last_terms(failure: u64, options: &[String]) -> Option<LastTerms>
     ensures terms { result ≡ last_terms_of failure (map string_bytes options.now) }
-    ensures repair { IfSome result (λ terms. (least_repair failure ≤ terms.repair) × (terms.repair ≤ BILLION)) }
+    ensures repair { IfSome result (λ terms. (least_repair failure ≤ terms.repair)
+        × (terms.repair ≤ BILLION)) }
     ensures most { IfSome result (λ terms. terms.most ≤ MOST_POOLED_MW) }
 {
     let [repair_name, repair, most_name, most] = options else {

@@ -87,10 +87,13 @@ impl Analysis {
     /// expected MW that aren't served.
     pub fn hourly(&self, hour: u32) -> Index
         requires { hour < length self.now.hours }
-        ensures written { IsIndex result self.now.units (need_of (slice_index_or self.now.hours hour no_net_hour) ∷ []) }
-        ensures encloses { EnclosesIndex result self.now.units (need_of (slice_index_or self.now.hours hour no_net_hour) ∷ []) }
+        ensures written { IsIndex result self.now.units
+            (need_of (slice_index_or self.now.hours hour no_net_hour) ∷ []) }
+        ensures encloses { EnclosesIndex result self.now.units
+            (need_of (slice_index_or self.now.hours hour no_net_hour) ∷ []) }
         ensures possible { 0 < all_weight self.now.units }
-        ensures width { IsNarrow result self.now.units (need_of (slice_index_or self.now.hours hour no_net_hour) ∷ []) }
+        ensures width { IsNarrow result self.now.units
+            (need_of (slice_index_or self.now.hours hour no_net_hour) ∷ []) }
     {
         self.index_of_hour(self.loads.need(hour))
     }

@@ -103,7 +103,8 @@ pub(crate) fn greatest<L: Ledger>(
 ) -> Found
     requires rated { All (λ unit. AreRates unit.rates) candidates.now.units }
     requires most { most ≤ MOST_POOLED_MW }
-    ensures greatest { IsGreatest (IsDecided (low_side kind) kind measure candidates.now (ends target)) most result.candidate }
+    ensures greatest { IsGreatest (IsDecided (low_side kind) kind measure candidates.now
+        (ends target)) most result.candidate }
     ensures stands { StandsAt (candidate_ends kind measure candidates.now) result.candidate result.index }
     ensures steps { SpendsFew most steps.old steps.new }
 {
@@ -140,7 +141,8 @@ pub(crate) fn least<L: Ledger>(
 ) -> Found
     requires rated { All (λ unit. AreRates unit.rates) candidates.now.units }
     requires most { most ≤ MOST_POOLED_MW }
-    ensures least { IsLeast (IsDecided (high_side kind) kind measure candidates.now (ends target)) most result.candidate }
+    ensures least { IsLeast (IsDecided (high_side kind) kind measure candidates.now
+        (ends target)) most result.candidate }
     ensures stands { StandsAt (candidate_ends kind measure candidates.now) result.candidate result.index }
     ensures steps { SpendsFew most steps.old steps.new }
 {

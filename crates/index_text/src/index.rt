@@ -46,7 +46,8 @@ fn put_head(out: &mut Text, analysis: &Analysis) -> Result<(), OutOfMemory>
 
 #[tactic(auto, using(crate::proofs::TextLemmas::text_steps))]
 fn put_hours(out: &mut Text, analysis: &Analysis) -> Result<(), OutOfMemory>
-    ensures { OnOk result (out.new ≡ out.old ++ flat_map (hour_text analysis.now) (range_with_len 0 (length analysis.now.hours))) }
+    ensures { OnOk result (out.new ≡ out.old ++
+        flat_map (hour_text analysis.now) (range_with_len 0 (length analysis.now.hours))) }
 {
     for hour in 0..analysis.loads().hours() {
         put_hour(out, analysis, hour)?;

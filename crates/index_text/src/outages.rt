@@ -32,7 +32,8 @@ pub fn put_table(out: &mut Text, table: &OutageTable) -> Result<(), OutOfMemory>
 
 #[tactic(auto, using(crate::proofs::TextLemmas::text_steps))]
 fn put_outages(out: &mut Text, table: &OutageTable) -> Result<(), OutOfMemory>
-    ensures { OnOk result (out.new ≡ out.old ++ flat_map (outage_text table.now) (range_with_len 0 (total_capacity table.now + 1))) }
+    ensures { OnOk result (out.new ≡ out.old ++
+        flat_map (outage_text table.now) (range_with_len 0 (total_capacity table.now + 1))) }
 {
     for x in 0..table.total() + 1 {
         put_outage(out, table, x)?;

@@ -33,7 +33,12 @@ impl<'a> Model for Chronology<'a> {
 
     ghost use Rattle.outage_chronology.specs.Kept.{IsKept};
 
-    ghost view = { λ c. record { system = c.system.now; seed = c.draws.seed; sample = c.draws.sample; hour = c.hour } };
+    ghost view = { λ c. record {
+      system = c.system.now;
+      seed = c.draws.seed;
+      sample = c.draws.sample;
+      hour = c.hour;
+    } };
 
     ghost invariant = { λ c. IsKept c.system.now c.hour c.draws c.thresholds c.words.items c.masks.items };
 }

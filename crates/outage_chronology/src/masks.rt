@@ -30,7 +30,8 @@ pub(crate) fn go_on(masks: &mut [u32], words: &[u32], fails: &[u32], is_repaired
     requires repairs { length is_repaired.now ≡ length masks.old }
     requires masks { (k : ℕ) → k < length masks.old → IsMask (slice_index masks.old k) }
     ensures { (k : ℕ) → k < length masks.old → slice_index masks.new k ≡ up_mask
-        (next_state (says_up (slice_index masks.old k)) (slice_index words.now k) (slice_index fails.now k) (slice_index is_repaired.now k)) }
+        (next_state (says_up (slice_index masks.old k)) (slice_index words.now k)
+        (slice_index fails.now k) (slice_index is_repaired.now k)) }
 {
     for at in 0..masks.len() {
         masks[at] = next_mask(masks[at], words[at], fails[at], is_repaired[at]);
@@ -42,7 +43,8 @@ pub(crate) fn begin(masks: &mut [u32], words: &[u32], starts_out: &[u32])
     requires words { length words.now ≡ length masks.old }
     requires starts { length starts_out.now ≡ length masks.old }
     ensures { (k : ℕ) → k < length masks.old
-        → slice_index masks.new k ≡ up_mask (first_state (slice_index words.now k) (slice_index starts_out.now k)) }
+        → slice_index masks.new k ≡
+        up_mask (first_state (slice_index words.now k) (slice_index starts_out.now k)) }
 {
     for at in 0..masks.len() {
         masks[at] = ones_if(words[at].min(LAST_WORD) >= starts_out[at]);

@@ -39,7 +39,8 @@ pub fn entries_of(alloc: Global, units: &[PooledUnit]) -> Result<Vec<Enclosure>,
 fn add_low(ends: &mut Vec<u64>, capacity: usize, share: Share) -> Result<(), AllocError>
     requires falling { AreFalling ends.old.items }
     requires fits { vec_len ends.old + capacity < 2 ^ 32 }
-    ensures ok { OnOk result ((x : ℕ) → slice_index ends.new.items x ≡ moved floor_div share.out share.all capacity ends.old.items x) }
+    ensures ok { OnOk result ((x : ℕ) → slice_index ends.new.items x
+        ≡ moved floor_div share.out share.all capacity ends.old.items x) }
     ensures len { OnOk result (vec_len ends.new ≤ vec_len ends.old + capacity) }
 {
     let len = ends.len() + capacity;
@@ -53,7 +54,8 @@ fn add_low(ends: &mut Vec<u64>, capacity: usize, share: Share) -> Result<(), All
 fn add_high(ends: &mut Vec<u64>, capacity: usize, share: Share) -> Result<(), AllocError>
     requires falling { AreFalling ends.old.items }
     requires fits { vec_len ends.old + capacity < 2 ^ 32 }
-    ensures ok { OnOk result ((x : ℕ) → slice_index ends.new.items x ≡ moved ceil_div share.out share.all capacity ends.old.items x) }
+    ensures ok { OnOk result ((x : ℕ) → slice_index ends.new.items x
+        ≡ moved ceil_div share.out share.all capacity ends.old.items x) }
     ensures len { OnOk result (vec_len ends.new ≤ vec_len ends.old + capacity) }
 {
     let len = ends.len() + capacity;
@@ -66,7 +68,8 @@ fn add_high(ends: &mut Vec<u64>, capacity: usize, share: Share) -> Result<(), Al
 // The last end goes first, so that each is made from ends that are still as they were.
 fn mix_low(ends: &mut [u64], capacity: usize, share: Share)
     requires { AreFalling ends.old }
-    ensures { (x : ℕ) → x < length ends.old → slice_index ends.new x ≡ moved floor_div share.out share.all capacity ends.old x }
+    ensures { (x : ℕ) → x < length ends.old
+        → slice_index ends.new x ≡ moved floor_div share.out share.all capacity ends.old x }
 {
     for x in (0..ends.len()).rev() {
         let up_end = ends[x];
@@ -77,7 +80,8 @@ fn mix_low(ends: &mut [u64], capacity: usize, share: Share)
 
 fn mix_high(ends: &mut [u64], capacity: usize, share: Share)
     requires { AreFalling ends.old }
-    ensures { (x : ℕ) → x < length ends.old → slice_index ends.new x ≡ moved ceil_div share.out share.all capacity ends.old x }
+    ensures { (x : ℕ) → x < length ends.old
+        → slice_index ends.new x ≡ moved ceil_div share.out share.all capacity ends.old x }
 {
     let near = capacity.min(ends.len());
     'far: for x in (near..ends.len()).rev() {

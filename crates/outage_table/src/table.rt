@@ -157,7 +157,8 @@ impl OutageTable {
 
         // Under a larger need no less is written as unserved.
         ensures rises { (more : ℕ) → need ≤ more
-            → (result.low ≤ unserved_grid floor_div self.now more) × (result.high ≤ unserved_grid ceil_div self.now more) }
+            → (result.low ≤ unserved_grid floor_div self.now more)
+            × (result.high ≤ unserved_grid ceil_div self.now more) }
     {
         let total = (self.entries.len() - 1) as u32;
         let mut sum = Enclosure { low: 0, high: 0 };

@@ -53,7 +53,8 @@ impl MemoryShelf {
 
     /// Sets the bytes of one table of a folder. Without memory the shelf stays as it was.
     pub fn put(&mut self, folder: &str, table: TableName, bytes: &[u8]) -> Result<(), OutOfMemory>
-        ensures ok { OnOk result (tables_of self.new ≡ with_table (tables_of self.old) folder.now table bytes.now) }
+        ensures ok { OnOk result (tables_of self.new
+            ≡ with_table (tables_of self.old) folder.now table bytes.now) }
         ensures err { OnErr result (tables_of self.new ≡ tables_of self.old) }
         ensures failing { failing_of self.new ≡ failing_of self.old }
         ensures calls { calls_of self.new ≡ calls_of self.old }

@@ -59,7 +59,8 @@ impl Sink for MemorySink {
         ensures held { Writes (Some self.old.held) (Some self.new.held) piece.now result }
         ensures faults { Counts (is_err result) self.old.faults self.new.faults }
         ensures fits { IsOk result ↔ (length self.old.held + length piece.now ≤ self.old.capacity) }
-        ensures part { OnErr result (self.new.held ≡ self.old.held ++ take (self.old.capacity - length self.old.held) piece.now) }
+        ensures part { OnErr result (self.new.held
+            ≡ self.old.held ++ take (self.old.capacity - length self.old.held) piece.now) }
         ensures count { OnErr result (self.new.faults ≡ one_more self.old.faults) }
         ensures capacity { self.new.capacity ≡ self.old.capacity }
     {

@@ -11,9 +11,11 @@ pub(crate) fn up_supply(units: &mut [UnitState], draws: &mut SampleStream, hour:
     requires place { draws.old.place ≡ hour * draws.old.components }
     requires few { length units.old ≤ 2048 }
     requires early { hour < 8784 }
-    requires small { (k : ℕ) → k < length units.old → (slice_index_or units.old k no_state).capacity ≤ 200000 }
+    requires small { (k : ℕ) → k < length units.old
+        → (slice_index_or units.old k no_state).capacity ≤ 200000 }
     ensures states { (k : ℕ) → k < length units.old
-        → slice_index_or units.new k no_state ≡ state_in hour (slice_index_or units.old k no_state) (draw draws.old.components draws.old.seed draws.old.sample hour k) }
+        → slice_index_or units.new k no_state ≡ state_in hour (slice_index_or units.old k no_state)
+        (draw draws.old.components draws.old.seed draws.old.sample hour k) }
     ensures draws { draws.new ≡ record draws.old { place = (hour + 1) * draws.old.components } }
     ensures supply { result ≡ sum_by unit_supply units.new }
     ensures bound { result ≤ length units.old * 200000 }

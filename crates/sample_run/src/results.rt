@@ -86,7 +86,8 @@ impl SampleResult {
         requires some_hour { 0 < hours }
         requires few_hours { hours ≤ 8784 }
         ensures empty { IfOk result (λ r. r ≡ tally_of hours zones []) }
-        ensures parts { IfOk result (λ r. (r.counted ≡ 0) × (r.room ≡ hours) × (length r.figures.zones ≡ zones)) }
+        ensures parts { IfOk result (λ r. (r.counted ≡ 0) × (r.room ≡ hours)
+            × (length r.figures.zones ≡ zones)) }
     {
         Ok(SampleResult {
             room: hours,

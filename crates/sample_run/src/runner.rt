@@ -67,7 +67,8 @@ impl<'a> Runner<'a> {
         ensures* keeps { sem 𝓛 (Keeps self.entry) }
         ensures figures { result.now.figures ≡ figures_of 1 (run_of self.old.system self.old.seed sample) }
         ensures zones { length result.now.figures.zones ≡ 1 }
-        ensures one_run { IsOnlyRun self.old.system self.old.seed sample (run_of self.old.system self.old.seed sample) }
+        ensures one_run { IsOnlyRun self.old.system self.old.seed sample
+            (run_of self.old.system self.old.seed sample) }
     {
         self.draws.start(sample);
         self.result.clear();

@@ -74,7 +74,8 @@ fn add_zones(zones: &mut [Sums], sample: &SampleResult)
     requires agree { length zones.old ≡ length sample.now.figures.zones }
     requires fits { (z : ℕ) → FitsMore (slice_index_or zones.old z no_sums) }
     ensures gained { (z : ℕ) → z < length zones.old
-        → slice_index_or zones.new z no_sums ≡ with_value (slice_index_or zones.old z no_sums) (slice_index sample.now.figures.zones z) }
+        → slice_index_or zones.new z no_sums
+        ≡ with_value (slice_index_or zones.old z no_sums) (slice_index sample.now.figures.zones z) }
     ensures small { (z : ℕ) → z < length zones.old → slice_index sample.now.figures.zones z ≤ 1756800000 }
 {
     for (zone, sums) in zones.iter_mut().enumerate() {
@@ -105,8 +106,10 @@ impl Totals {
         requires few { self.old.samples < 1000000 }
         // Where the totals were those of runs and the result is that of a run, they are now those of
         // the runs and this one.
-        ensures ok { OnOk result ((runs : List (List HourOutcome)) (run : List HourOutcome) → let zones = length self.old.zones in
-            self.old ≡ totals_of zones runs → sample.now.figures ≡ figures_of zones run → self.new ≡ totals_of zones (runs ++ run ∷ [])) }
+        ensures ok { OnOk result ((runs : List (List HourOutcome)) (run : List HourOutcome)
+            → let zones = length self.old.zones in
+            self.old ≡ totals_of zones runs → sample.now.figures ≡ figures_of zones run
+            → self.new ≡ totals_of zones (runs ++ run ∷ [])) }
         ensures samples { OnOk result (self.new.samples ≡ self.old.samples + 1) }
         ensures zones { OnOk result (length self.new.zones ≡ length self.old.zones) }
         ensures err { OnErr result (self.new ≡ self.old) }

@@ -63,7 +63,8 @@ impl SampleStream {
     #[inline]
     pub fn next_draw(&mut self) -> u32
         requires { 0 < self.old.components }
-        ensures word { let hour = self.old.place / self.old.components in let component = self.old.place % self.old.components in
+        ensures word { let hour = self.old.place / self.old.components in
+            let component = self.old.place % self.old.components in
             result ≡ draw self.old.components self.old.seed self.old.sample hour component }
         ensures next { self.new ≡ behind 1 self.old }
     {

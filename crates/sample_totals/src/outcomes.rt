@@ -25,7 +25,14 @@ pub struct HourOutcome {
 impl HourOutcome {
     /// An outcome for so many zones and devices, all zero.
     pub fn new(alloc: Global, zones: u8, devices: u32) -> Result<HourOutcome, OutOfMemory>
-        ensures { IfOk result (λ outcome. outcome ≡ record { hour = 0; unserved = replicate zones 0; discharge = replicate devices 0; charge = replicate devices 0; energy = replicate devices 0; cut = 0 }) }
+        ensures { IfOk result (λ outcome. outcome ≡ record {
+          hour = 0;
+          unserved = replicate zones 0;
+          discharge = replicate devices 0;
+          charge = replicate devices 0;
+          energy = replicate devices 0;
+          cut = 0;
+        }) }
     {
         let zones = zones as usize;
         let devices = devices as usize;

@@ -49,7 +49,10 @@ impl<'a> Storages<'a> {
 
     /// The storages of a system as a run starts.
     pub fn new(alloc: Global, system: &'a System) -> Result<Storages<'a>, OutOfMemory>
-        ensures { IfOk result (λ s. s ≡ record { system = system.now; energies = start_energies system.now }) }
+        ensures { IfOk result (λ s. s ≡ record {
+          system = system.now;
+          energies = start_energies system.now;
+        }) }
     {
         let mut energies = Vec::with_capacity(alloc, system.storages() as usize)?;
         for device in 0..system.storages() {
@@ -69,7 +72,9 @@ impl<'a> Storages<'a> {
 
     /// Goes on to the next hour: each storage, up or out, keeps the whole part of its share.
     pub fn carry(&mut self)
-        ensures { self.new ≡ record self.old { energies = carried_energies self.old.system self.old.energies } }
+        ensures { self.new ≡ record self.old {
+          energies = carried_energies self.old.system self.old.energies;
+        } }
     {
         for device in 0..self.system.storages() {
             let storage = self.system.storage(device);
@@ -97,7 +102,8 @@ impl<'a> Storages<'a> {
         requires place { device < storage_count self.old.system }
         requires caps { IsWithinCaps self.old device charge discharge }
         ensures { let storage = storage_at self.old.system device in self.new ≡ record self.old {
-          energies = slice_set self.old.energies device (energy_then storage (energy_of self.old device) charge discharge);
+          energies = slice_set self.old.energies device (energy_then storage
+              (energy_of self.old device) charge discharge);
         } }
     {
         let storage = self.system.storage(device);

@@ -61,7 +61,8 @@ impl Flow {
         requires link { link < link_count net.now.shape }
         requires can { CanSpread net.now self.now (end_of net.now.shape link forward) seen.old }
         ensures spreads { Spreads net.now self.now towards seen.old seen.new }
-        ensures entered { IsEntered net.now self.now towards seen.new (end_of net.now.shape link forward) link }
+        ensures entered { IsEntered net.now self.now towards seen.new
+            (end_of net.now.shape link forward) link }
     {
         let start = start_of(net, link, forward);
         let room = self.room(net, link, way(towards, forward));
