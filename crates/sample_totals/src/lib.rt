@@ -1,9 +1,17 @@
-//! What an hour of a sample comes to.
+//! What an hour of a sample comes to, what its hours come to together, and what samples come to.
 #![tactic(auto)]
 
+mod cut_rows;
+mod estimates;
 mod outcomes;
-
-pub use outcomes::HourOutcome;
-
+mod results;
 #[cfg(test)]
 mod tests;
+mod totals;
+mod unserved;
+
+pub use cut_rows::CutRow;
+pub use estimates::{Sums, error, mean};
+pub use outcomes::HourOutcome;
+pub use results::{MOST_UNSERVED, SampleResult};
+pub use totals::{Part, Totals};

@@ -1,0 +1,5 @@
+pub mod CutRows
+pub mod Estimates
+pub mod Results
+pub mod Totals
+pub mod WorkedRows
