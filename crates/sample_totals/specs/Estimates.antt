@@ -1,5 +1,5 @@
 -- Mean and standard error of a sum over samples, in thousandths.
-use Rattle.std.specs.Prelude.{ℕ, zero, suc, ◌+◌, ◌-◌, ◌*◌, ◌/◌, ◌^◌, ◌<◌, ◌≤◌, ◌==◌, Bool, nat_le, Option, None, Some, if◌then◌else◌}
+use Rattle.std.specs.Prelude.{ℕ, zero, suc, ◌+◌, ◌-◌, ◌*◌, ◌/◌, ◌^◌, ◌<◌, ◌≤◌, ◌==◌, ◌&&◌, Bool, true, nat_le, Option, None, Some, if◌then◌else◌}
 use Rattle.sample_totals.specs.declared.results.TheConstants.{MOST_UNSERVED}
 use Rattle.sample_totals.specs.declared.estimates.Sums.{Sums}
 
@@ -64,12 +64,12 @@ pub record IsGreatestWithin (sums : Sums) (samples e : ℕ) : Type 0 where
   pub within : IsWithin sums samples e
   pub greatest : (g : ℕ) → IsWithin sums samples g → g ≤ e
 
--- so many samples are enough for a precision in thousandths: they are two or more, and the standard error is
--- at most that part of the mean, which is said in squares. Without a precision any number is enough
-abbrev pub IsEnough : Sums → ℕ → Option ℕ → Type 0
-IsEnough sums samples None = Unit {0}
-IsEnough sums samples (Some precision) =
-    (2 ≤ samples) × (spread_of sums samples ≤ precision * precision * (sums.total * sums.total) * (samples - 1))
+-- whether so many samples are enough for a precision in thousandths: they are two or more, and the standard error
+-- is at most that part of the mean, which is said in squares. Without a precision any number is enough
+abbrev pub is_enough : Sums → ℕ → Option ℕ → Bool
+is_enough sums samples None = true
+is_enough sums samples (Some precision) =
+    nat_le 2 samples && nat_le (spread_of sums samples) (precision * precision * (sums.total * sums.total) * (samples - 1))
 
 -- a precision is from 1 to 1000 thousandths
 abbrev pub IsPrecision : ℕ → Type 0

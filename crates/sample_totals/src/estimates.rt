@@ -1,7 +1,7 @@
-ghost use Rattle.std.specs.Prelude.{◌≡◌, ◌<◌, ◌≤◌, ◌+◌, ◌*◌, IfSome, IsNone, IsTrue, ◌↔◌};
+ghost use Rattle.std.specs.Prelude.{◌≡◌, ◌<◌, ◌≤◌, ◌+◌, ◌*◌, IfSome, IsNone, ◌↔◌};
 ghost use Rattle.ra_base.specs.declared.limits.TheConstants.{MOST_SAMPLES};
 ghost use Rattle.sample_totals.specs.declared.results.TheConstants.{MOST_UNSERVED};
-ghost use Rattle.sample_totals.specs.Estimates.{AreSums, FitsMore, FitBoth, with_value, joined_sums, mean_of, error_of, IsGreatestWithin, IsEnough, IsPrecision};
+ghost use Rattle.sample_totals.specs.Estimates.{AreSums, FitsMore, FitBoth, with_value, joined_sums, mean_of, error_of, IsGreatestWithin, is_enough, IsPrecision};
 
 /// The plain sum of a figure over samples, and the sum of its squares.
 #[derive(Clone, Copy, Debug, PartialEq, Eq)]
@@ -75,7 +75,7 @@ pub fn enough(sums: Sums, samples: u32, precision: Option<u16>) -> bool
     requires few { samples ≤ MOST_SAMPLES }
     requires sums { AreSums sums samples }
     requires precision { IfSome precision IsPrecision }
-    ensures { IsTrue result ↔ IsEnough sums samples precision }
+    ensures { result ≡ is_enough sums samples precision }
 {
     let Some(precision) = precision else {
         return true;
