@@ -1,7 +1,8 @@
 pub mod FolderLemmas
+pub mod FormLemmas
 pub mod ReportLemmas
 pub mod StoredLemmas
 pub mod StudyLemmas
 pub mod TextLemmas
 pub mod TopLemmas
-pub mod WordsLemmas
+pub mod WordsWorked

@@ -9,46 +9,44 @@ use Rattle.ra_base.specs.declared.status.Status.TheVariants as status
 use Rattle.ra_base.specs.declared.table.TableBytes.{TableBytes}
 use Rattle.system_model.specs.System.{SystemParts}
 use Rattle.adequacy.specs.declared.endings.Failure.{Failure}
-use Rattle.adequacy.specs.declared.endings.Failure.TheVariants.{Words, Refused, NotBuilt, ReadFault, WriteFault, OutOfMemory}
+use Rattle.adequacy.specs.declared.endings.Failure.TheVariants.{Words, Refused, ReadFault, WriteFault, OutOfMemory}
 use Rattle.adequacy.specs.declared.tables.FolderError.{FolderError}
 use Rattle.adequacy.specs.declared.tables.FolderError.TheVariants as folder
 use Rattle.adequacy.specs.declared.tables.Refusal.{Refusal}
-use Rattle.adequacy.specs.declared.words.Command.{Command}
-use Rattle.adequacy.specs.Words.{Line as LineWords}
-use Rattle.adequacy.specs.Commands.{is_built}
+use Rattle.adequacy.specs.LineParts.{LineParts}
+use Rattle.adequacy.specs.Requests.{request_of}
+use Rattle.adequacy.specs.declared.words.request.Request.{Request}
 use Rattle.adequacy.specs.Folder.{no_tables, table_order, stored_tables, stored_from, folder_outcome, FolderSpells, IsRefused}
-use Rattle.adequacy.specs.Endings.{Ending, AnswerGained, Ends, Tells, HasRun, RunsOn, says_read_fault, says_write_fault}
+use Rattle.adequacy.specs.Endings.{Ending, AnswerGained, Ends, Tells, HasRun, HasNotRun, MayRun, RunsOn, says_read_fault, says_write_fault}
 use Rattle.adequacy.proofs.StoredLemmas.{IsUnless, told_outcome}
 
 -- where a read failed or memory wasn't found, a run ends so
-fault_ended : (command : Command) (expected : Result TableBytes FolderError) (ending : Ending) (held held' : Option (List ℕ)) → Ends command (Err folder.ReadFault) ending held held' → (ending ≡ Err ReadFault) ⊎ Ends command expected ending held held'
-fault_ended command expected (Ok done) held held' (system, is, gained) = absurd (cc)
-fault_ended command expected (Err Words) held held' ended = absurd ended
-fault_ended command expected (Err (Refused refusal)) held held' (is, same) = absurd (cc)
-fault_ended command expected (Err NotBuilt) held held' (system, is, same) = absurd (cc)
-fault_ended command expected (Err ReadFault) held held' ended = inl refl
-fault_ended command expected (Err WriteFault) held held' (system, is, gained) = absurd (cc)
-fault_ended command expected (Err OutOfMemory) held held' ended = inr ended
+fault_ended : (request : Request) (expected : Result TableBytes FolderError) (ending : Ending) (held held' : Option (List ℕ)) → Ends request (Err folder.ReadFault) ending held held' → (ending ≡ Err ReadFault) ⊎ Ends request expected ending held held'
+fault_ended request expected (Ok done) held held' (system, is, gained) = absurd (cc)
+fault_ended request expected (Err (Words fault)) held held' ended = absurd ended
+fault_ended request expected (Err (Refused refusal)) held held' (is, same) = absurd (cc)
+fault_ended request expected (Err ReadFault) held held' ended = inl refl
+fault_ended request expected (Err WriteFault) held held' (system, is, gained) = absurd (cc)
+fault_ended request expected (Err OutOfMemory) held held' ended = inr ended
 
-memory_ended : (command : Command) (expected : Result TableBytes FolderError) (ending : Ending) (held held' : Option (List ℕ)) → Ends command (Err folder.OutOfMemory) ending held held' → (ending ≡ Err ReadFault) ⊎ Ends command expected ending held held'
-memory_ended command expected (Ok done) held held' (system, is, gained) = absurd (cc)
-memory_ended command expected (Err Words) held held' ended = absurd ended
-memory_ended command expected (Err (Refused refusal)) held held' (is, same) = absurd (cc)
-memory_ended command expected (Err NotBuilt) held held' (system, is, same) = absurd (cc)
-memory_ended command expected (Err ReadFault) held held' (is, same) = absurd (cc)
-memory_ended command expected (Err WriteFault) held held' (system, is, gained) = absurd (cc)
-memory_ended command expected (Err OutOfMemory) held held' ended = inr ended
+memory_ended : (request : Request) (expected : Result TableBytes FolderError) (ending : Ending) (held held' : Option (List ℕ)) → Ends request (Err folder.OutOfMemory) ending held held' → (ending ≡ Err ReadFault) ⊎ Ends request expected ending held held'
+memory_ended request expected (Ok done) held held' (system, is, gained) = absurd (cc)
+memory_ended request expected (Err (Words fault)) held held' ended = absurd ended
+memory_ended request expected (Err (Refused refusal)) held held' (is, same) = absurd (cc)
+memory_ended request expected (Err ReadFault) held held' (is, same) = absurd (cc)
+memory_ended request expected (Err WriteFault) held held' (system, is, gained) = absurd (cc)
+memory_ended request expected (Err OutOfMemory) held held' ended = inr ended
 
-unless_ended : (command : Command) (tables expected : Result TableBytes FolderError) (ending : Ending) (held held' : Option (List ℕ)) → IsUnless tables expected → Ends command tables ending held held' → (ending ≡ Err ReadFault) ⊎ Ends command expected ending held held'
-unless_ended command tables expected ending held held' (inl same) ended =
-    inr (subst (λ (t : Result TableBytes FolderError). Ends command t ending held held') same ended)
-unless_ended command tables expected ending held held' (inr (inl fault)) ended =
-    fault_ended command expected ending held held' (subst (λ (t : Result TableBytes FolderError). Ends command t ending held held') fault ended)
-unless_ended command tables expected ending held held' (inr (inr none)) ended =
-    memory_ended command expected ending held held' (subst (λ (t : Result TableBytes FolderError). Ends command t ending held held') none ended)
+unless_ended : (request : Request) (tables expected : Result TableBytes FolderError) (ending : Ending) (held held' : Option (List ℕ)) → IsUnless tables expected → Ends request tables ending held held' → (ending ≡ Err ReadFault) ⊎ Ends request expected ending held held'
+unless_ended request tables expected ending held held' (inl same) ended =
+    inr (subst (λ (t : Result TableBytes FolderError). Ends request t ending held held') same ended)
+unless_ended request tables expected ending held held' (inr (inl fault)) ended =
+    fault_ended request expected ending held held' (subst (λ (t : Result TableBytes FolderError). Ends request t ending held held') fault ended)
+unless_ended request tables expected ending held held' (inr (inr none)) ended =
+    memory_ended request expected ending held held' (subst (λ (t : Result TableBytes FolderError). Ends request t ending held held') none ended)
 
 -- a run on answers that are those of stored tables is a run on these
-pub runs_on : (contents : Option Tables) (stored : Tables) (line : LineWords) (ends : Status) (reads reads' : List Reading) (counts counts' : ShelfCounts) (held held' said said' : Option (List ℕ)) (faults faults' : ℕ)
+pub runs_on : (contents : Option Tables) (stored : Tables) (line : LineParts) (ends : Status) (reads reads' : List Reading) (counts counts' : ShelfCounts) (held held' said said' : Option (List ℕ)) (faults faults' : ℕ)
     → contents ≡ Some stored → HasRun contents line ends reads reads' counts counts' held held' said said' faults faults'
     → RunsOn stored line ends held held' said said' faults faults'
 unfolding stored_tables
@@ -56,10 +54,22 @@ runs_on contents stored line ends reads reads' counts counts' held held' said sa
     let stood = rw told at run.read.told in
     record {
       ending = run.ending;
-      ended = unless_ended line.command run.tables (stored_from stored line.folder table_order no_tables) run.ending held held'
-          (told_outcome stored line.folder table_order run.read.answers no_tables run.tables run.read.answered stood) run.ended;
+      ended = unless_ended (request_of line) run.tables (stored_from stored line.place table_order no_tables) run.ending held held'
+          (told_outcome stored line.place table_order run.read.answers no_tables run.tables run.read.answered stood) run.ended;
       told = run.told;
     }
+
+-- the same where memory wasn't found before anything was read
+pub may_run_on : (contents : Option Tables) (stored : Tables) (line : LineParts) (ends : Status) (reads reads' : List Reading) (counts counts' : ShelfCounts) (held held' said said' : Option (List ℕ)) (faults faults' : ℕ)
+    → contents ≡ Some stored → MayRun contents line ends reads reads' counts counts' held held' said said' faults faults'
+    → RunsOn stored line ends held held' said said' faults faults'
+may_run_on contents stored line ends reads reads' counts counts' held held' said said' f f' told (inl run) =
+    runs_on contents stored line ends reads reads' counts counts' held held' said said' f f' told run
+may_run_on contents stored line ends reads reads' counts counts' held held' said said' f f' told (inr none) = record {
+  ending = Err OutOfMemory;
+  ended = inr none.written;
+  told = none.told;
+}
 
 -- no fault was counted, so none is answered
 not_read_fault : (ends : Status) (faults faults' : ℕ) → Counts (says_read_fault ends) faults faults' → (Rose faults faults' → ⊥) → ends ≡ status.ReadFault → ⊥
@@ -69,56 +79,51 @@ not_write_fault : (ends : Status) (faults faults' : ℕ) → Counts (says_write_
 not_write_fault ends faults faults' counts none is = none ((rw is at counts).1)
 
 -- a run on tables that spell a system, where no fault was counted
-spelled_ended : (command : Command) (tables : Result TableBytes FolderError) (system : SystemParts) (ending : Ending) (ends : Status) (held held' said said' : Option (List ℕ)) (f f' : ℕ)
-    → folder_outcome tables ≡ Ok system → is_built command system ≡ true
+spelled_ended : (request : Request) (tables : Result TableBytes FolderError) (system : SystemParts) (ending : Ending) (ends : Status) (held held' said said' : Option (List ℕ)) (f f' : ℕ)
+    → folder_outcome tables ≡ Ok system
     → (ends ≡ status.ReadFault → ⊥) → (ends ≡ status.WriteFault → ⊥)
-    → (ending ≡ Err ReadFault) ⊎ Ends command tables ending held held' → Tells ending ends said said' f f'
-    → ((ends ≡ status.Done) × AnswerGained command system held held') ⊎ (ends ≡ status.OutOfMemory)
-spelled_ended command tables system ending ends held held' said said' f f' spells built no_read no_write (inl fault) told =
+    → (ending ≡ Err ReadFault) ⊎ Ends request tables ending held held' → Tells ending ends said said' f f'
+    → ((ends ≡ status.Done) × AnswerGained request system held held') ⊎ (ends ≡ status.OutOfMemory)
+spelled_ended request tables system ending ends held held' said said' f f' spells no_read no_write (inl fault) told =
     absurd (no_read ((rw fault at told).0))
-spelled_ended command tables system (Ok done) ends held held' said said' f f' spells built no_read no_write (inr (other, is, gained)) told =
+spelled_ended request tables system (Ok done) ends held held' said said' f f' spells no_read no_write (inr (other, is, gained)) told =
     let same : other ≡ system = cc in
-    inl (told.0, subst (λ (s : SystemParts). AnswerGained command s held held') same gained)
-spelled_ended command tables system (Err Words) ends held held' said said' f f' spells built no_read no_write (inr ended) told = absurd ended
-spelled_ended command tables system (Err (Refused refusal)) ends held held' said said' f f' spells built no_read no_write (inr (is, same)) told = absurd (cc)
-spelled_ended command tables system (Err NotBuilt) ends held held' said said' f f' spells built no_read no_write (inr (other, is, unbuilt)) told =
-    let same : other ≡ system = cc in
-    let not : is_built command system ≡ false = subst (λ (s : SystemParts). is_built command s ≡ false) same unbuilt.0 in
-    absurd (cc)
-spelled_ended command tables system (Err ReadFault) ends held held' said said' f f' spells built no_read no_write (inr (is, same)) told = absurd (cc)
-spelled_ended command tables system (Err WriteFault) ends held held' said said' f f' spells built no_read no_write (inr ended) told = absurd (no_write told.0)
-spelled_ended command tables system (Err OutOfMemory) ends held held' said said' f f' spells built no_read no_write (inr ended) told = inr told.0
+    inl (told.0, subst (λ (s : SystemParts). AnswerGained request s held held') same gained)
+spelled_ended request tables system (Err (Words fault)) ends held held' said said' f f' spells no_read no_write (inr ended) told = absurd ended
+spelled_ended request tables system (Err (Refused refusal)) ends held held' said said' f f' spells no_read no_write (inr (is, same)) told = absurd (cc)
+spelled_ended request tables system (Err ReadFault) ends held held' said said' f f' spells no_read no_write (inr (is, same)) told = absurd (cc)
+spelled_ended request tables system (Err WriteFault) ends held held' said said' f f' spells no_read no_write (inr ended) told = absurd (no_write told.0)
+spelled_ended request tables system (Err OutOfMemory) ends held held' said said' f f' spells no_read no_write (inr ended) told = inr told.0
 
 -- a run on tables that are refused, where no read failed
-refused_ended : (command : Command) (tables : Result TableBytes FolderError) (refusal : Refusal) (ending : Ending) (ends : Status) (held held' said said' : Option (List ℕ)) (f f' : ℕ)
+refused_ended : (request : Request) (tables : Result TableBytes FolderError) (refusal : Refusal) (ending : Ending) (ends : Status) (held held' said said' : Option (List ℕ)) (f f' : ℕ)
     → folder_outcome tables ≡ Err (folder.Refused refusal)
     → (ends ≡ status.ReadFault → ⊥)
-    → (ending ≡ Err ReadFault) ⊎ Ends command tables ending held held' → Tells ending ends said said' f f'
+    → (ending ≡ Err ReadFault) ⊎ Ends request tables ending held held' → Tells ending ends said said' f f'
     → Tells (Err (Refused refusal)) ends said said' f f' ⊎ (ends ≡ status.OutOfMemory)
-refused_ended command tables refusal ending ends held held' said said' f f' refused no_read (inl fault) told =
+refused_ended request tables refusal ending ends held held' said said' f f' refused no_read (inl fault) told =
     absurd (no_read ((rw fault at told).0))
-refused_ended command tables refusal (Ok done) ends held held' said said' f f' refused no_read (inr (system, is, gained)) told = absurd (cc)
-refused_ended command tables refusal (Err Words) ends held held' said said' f f' refused no_read (inr ended) told = absurd ended
-refused_ended command tables refusal (Err (Refused other)) ends held held' said said' f f' refused no_read (inr (is, same)) told =
+refused_ended request tables refusal (Ok done) ends held held' said said' f f' refused no_read (inr (system, is, gained)) told = absurd (cc)
+refused_ended request tables refusal (Err (Words fault)) ends held held' said said' f f' refused no_read (inr ended) told = absurd ended
+refused_ended request tables refusal (Err (Refused other)) ends held held' said said' f f' refused no_read (inr (is, same)) told =
     let one : other ≡ refusal = cc in
     inl (subst (λ (r : Refusal). Tells (Err (Refused r)) ends said said' f f') one told)
-refused_ended command tables refusal (Err NotBuilt) ends held held' said said' f f' refused no_read (inr (system, is, same)) told = absurd (cc)
-refused_ended command tables refusal (Err ReadFault) ends held held' said said' f f' refused no_read (inr (is, same)) told = absurd (cc)
-refused_ended command tables refusal (Err WriteFault) ends held held' said said' f f' refused no_read (inr (system, is, gained)) told = absurd (cc)
-refused_ended command tables refusal (Err OutOfMemory) ends held held' said said' f f' refused no_read (inr ended) told = inr told.0
+refused_ended request tables refusal (Err ReadFault) ends held held' said said' f f' refused no_read (inr (is, same)) told = absurd (cc)
+refused_ended request tables refusal (Err WriteFault) ends held held' said said' f f' refused no_read (inr (system, is, gained)) told = absurd (cc)
+refused_ended request tables refusal (Err OutOfMemory) ends held held' said said' f f' refused no_read (inr ended) told = inr told.0
 
-pub answered_by : (stored : Tables) (line : LineWords) (system : SystemParts) (ends : Status) (held held' said said' : Option (List ℕ)) (f f' r r' w w' : ℕ)
-    → RunsOn stored line ends held held' said said' f f' → FolderSpells stored line.folder system → is_built line.command system ≡ true
+pub answered_by : (stored : Tables) (line : LineParts) (system : SystemParts) (ends : Status) (held held' said said' : Option (List ℕ)) (f f' r r' w w' : ℕ)
+    → RunsOn stored line ends held held' said said' f f' → FolderSpells stored line.place system
     → Counts (says_read_fault ends) r r' → Counts (says_write_fault ends) w w' → (Rose r r' → ⊥) → (Rose w w' → ⊥)
-    → ((ends ≡ status.Done) × AnswerGained line.command system held held') ⊎ (ends ≡ status.OutOfMemory)
-answered_by stored line system ends held held' said said' f f' r r' w w' run spells built read write no_read no_write =
-    spelled_ended line.command (stored_tables stored line.folder) system run.ending ends held held' said said' f f' spells built
+    → ((ends ≡ status.Done) × AnswerGained (request_of line) system held held') ⊎ (ends ≡ status.OutOfMemory)
+answered_by stored line system ends held held' said said' f f' r r' w w' run spells read write no_read no_write =
+    spelled_ended (request_of line) (stored_tables stored line.place) system run.ending ends held held' said said' f f' spells
     (not_read_fault ends r r' read no_read) (not_write_fault ends w w' write no_write) run.ended run.told
 
-pub refused_by : (stored : Tables) (line : LineWords) (refusal : Refusal) (ends : Status) (held held' said said' : Option (List ℕ)) (f f' r r' : ℕ)
-    → RunsOn stored line ends held held' said said' f f' → IsRefused stored line.folder refusal
+pub refused_by : (stored : Tables) (line : LineParts) (refusal : Refusal) (ends : Status) (held held' said said' : Option (List ℕ)) (f f' r r' : ℕ)
+    → RunsOn stored line ends held held' said said' f f' → IsRefused stored line.place refusal
     → Counts (says_read_fault ends) r r' → (Rose r r' → ⊥)
     → Tells (Err (Refused refusal)) ends said said' f f' ⊎ (ends ≡ status.OutOfMemory)
 refused_by stored line refusal ends held held' said said' f f' r r' run refused read no_read =
-    refused_ended line.command (stored_tables stored line.folder) refusal run.ending ends held held' said said' f f' refused
+    refused_ended (request_of line) (stored_tables stored line.place) refusal run.ending ends held held' said said' f f' refused
     (not_read_fault ends r r' read no_read) run.ended run.told

@@ -8,19 +8,23 @@ use Rattle.ra_base.specs.declared.status.Status.{Status}
 use Rattle.ra_base.specs.declared.status.Status.TheVariants as status
 use Rattle.ra_base.specs.declared.table.TableBytes.{TableBytes}
 use Rattle.system_model.specs.System.{SystemParts}
-use Rattle.adequacy.specs.Commands.{IsAnswer, is_built}
+use Rattle.adequacy.specs.Commands.{IsAnswer}
 use Rattle.adequacy.specs.FaultText.{table_text, fault_line}
 use Rattle.adequacy.specs.Folder.{folder_outcome, no_tables, table_order, HasRead, stored_tables}
-use Rattle.adequacy.specs.Words.{Line as LineWords}
+use Rattle.adequacy.specs.LineParts.{LineParts}
+use Rattle.adequacy.specs.Requests.{request_of}
+use Rattle.adequacy.specs.WordFaultText.{word_fault_text}
 use Rattle.adequacy.specs.declared.endings.Failure.{Failure}
-use Rattle.adequacy.specs.declared.endings.Failure.TheVariants.{Words, Refused, NotBuilt, ReadFault, WriteFault, OutOfMemory}
+use Rattle.adequacy.specs.declared.endings.Failure.TheVariants.{Words, Refused, ReadFault, WriteFault, OutOfMemory}
 use Rattle.adequacy.specs.declared.endings.Unread.{Unread}
 use Rattle.adequacy.specs.declared.endings.Unread.TheVariants as unread
 use Rattle.adequacy.specs.declared.tables.FolderError.{FolderError}
 use Rattle.adequacy.specs.declared.tables.FolderError.TheVariants as folder
 use Rattle.adequacy.specs.declared.tables.Refusal.{Refusal}
 use Rattle.adequacy.specs.declared.tables.Refusal.TheVariants.{Missing, TooLong, Fault}
-use Rattle.adequacy.specs.declared.words.Command.{Command}
+use Rattle.adequacy.specs.declared.words.fault.WordFault.{WordFault}
+use Rattle.adequacy.specs.declared.words.fault.WordFault.TheVariants.{Usage}
+use Rattle.adequacy.specs.declared.words.request.Request.{Request}
 
 -- a run answers, or fails
 abbrev pub Ending : Type 0
@@ -34,14 +38,13 @@ failure_of folder.OutOfMemory = OutOfMemory
 
 -- the failure of a run that has no words to read
 abbrev pub unread_failure : Unread → Failure
-unread_failure unread.NotText = Words
+unread_failure unread.NotText = Words Usage
 unread_failure unread.OutOfMemory = OutOfMemory
 
 -- the status of a failure, and of an ending
 abbrev pub failure_status : Failure → Status
-failure_status Words = status.Words
+failure_status (Words fault) = status.Words
 failure_status (Refused refusal) = status.Table
-failure_status NotBuilt = status.Table
 failure_status ReadFault = status.ReadFault
 failure_status WriteFault = status.WriteFault
 failure_status OutOfMemory = status.OutOfMemory
@@ -58,9 +61,8 @@ refusal_line (Fault fault) = fault_line fault
 
 -- the line of a failure
 abbrev pub error_line : Failure → List ℕ
-error_line Words = codes "words: usage" ++ 10 ∷ []
+error_line (Words fault) = word_fault_text fault
 error_line (Refused refusal) = refusal_line refusal
-error_line NotBuilt = codes "system not built" ++ 10 ∷ []
 error_line ReadFault = codes "read fault" ++ 10 ∷ []
 error_line WriteFault = codes "write fault" ++ 10 ∷ []
 error_line OutOfMemory = codes "out of memory" ++ 10 ∷ []
@@ -76,38 +78,39 @@ Tells (Ok done) ends before now faults faults' = (ends ≡ status.Done) × (now 
 Tells (Err failure) ends before now faults faults' =
     (ends ≡ failure_status failure) × ErrGains before now faults faults' (error_line failure)
 
--- a failure is told; or want of memory, where there was none to write why tables are refused
+-- a failure is told; or want of memory, where there was none to write what is wrong with words or tables
 abbrev pub Reports : Failure → Status → Option (List ℕ) → Option (List ℕ) → ℕ → ℕ → Type 0
+Reports (Words fault) ends before now faults faults' =
+    Tells (Err (Words fault)) ends before now faults faults' ⊎ Tells (Err OutOfMemory) ends before now faults faults'
 Reports (Refused refusal) ends before now faults faults' =
     Tells (Err (Refused refusal)) ends before now faults faults' ⊎ Tells (Err OutOfMemory) ends before now faults faults'
 Reports failure ends before now faults faults' = Tells (Err failure) ends before now faults faults'
 
--- `out` has gained what answers a command for a system
-abbrev pub AnswerGained : Command → SystemParts → Option (List ℕ) → Option (List ℕ) → Type 0
-AnswerGained command system before now = (text : List ℕ) × IsAnswer command system text × Gained before now text
+-- `out` has gained what answers a request for a system
+abbrev pub AnswerGained : Request → SystemParts → Option (List ℕ) → Option (List ℕ) → Type 0
+AnswerGained request system before now = (text : List ℕ) × IsAnswer request system text × Gained before now text
 
--- how a command ends for a system, and what `out` has gained: its answer, a first part of that where the write
+-- how a request ends for a system, and what `out` has gained: its answer, a first part of that where the write
 -- failed, or nothing
-abbrev pub Answers : Command → SystemParts → Ending → Option (List ℕ) → Option (List ℕ) → Type 0
-Answers command system (Ok done) before now = AnswerGained command system before now
-Answers command system (Err WriteFault) before now =
-    (text : List ℕ) × IsAnswer command system text × GainedPart before now text
-Answers command system (Err NotBuilt) before now = (is_built command system ≡ false) × (now ≡ before)
-Answers command system (Err OutOfMemory) before now = now ≡ before
-Answers command system (Err Words) before now = ⊥
-Answers command system (Err (Refused refusal)) before now = ⊥
-Answers command system (Err ReadFault) before now = ⊥
+abbrev pub Answers : Request → SystemParts → Ending → Option (List ℕ) → Option (List ℕ) → Type 0
+Answers request system (Ok done) before now = AnswerGained request system before now
+Answers request system (Err WriteFault) before now =
+    (text : List ℕ) × IsAnswer request system text × GainedPart before now text
+Answers request system (Err OutOfMemory) before now = now ≡ before
+Answers request system (Err (Words fault)) before now = ⊥
+Answers request system (Err (Refused refusal)) before now = ⊥
+Answers request system (Err ReadFault) before now = ⊥
 
--- how a command ends for a folder, by what the reads of its tables came to: where they spell a system, by what it
+-- how a request ends for a folder, by what the reads of its tables came to: where they spell a system, by what it
 -- answers for that system; where they are refused, for that reason; where a read failed, so
-abbrev pub Ends : Command → Result TableBytes FolderError → Ending → Option (List ℕ) → Option (List ℕ) → Type 0
-Ends command tables (Err OutOfMemory) before now = now ≡ before
-Ends command tables (Err Words) before now = ⊥
-Ends command tables (Err (Refused refusal)) before now =
+abbrev pub Ends : Request → Result TableBytes FolderError → Ending → Option (List ℕ) → Option (List ℕ) → Type 0
+Ends request tables (Err OutOfMemory) before now = now ≡ before
+Ends request tables (Err (Words fault)) before now = ⊥
+Ends request tables (Err (Refused refusal)) before now =
     (folder_outcome tables ≡ Err (folder.Refused refusal)) × (now ≡ before)
-Ends command tables (Err ReadFault) before now = (folder_outcome tables ≡ Err folder.ReadFault) × (now ≡ before)
-Ends command tables ending before now =
-    (system : SystemParts) × (folder_outcome tables ≡ Ok system) × Answers command system ending before now
+Ends request tables (Err ReadFault) before now = (folder_outcome tables ≡ Err folder.ReadFault) × (now ≡ before)
+Ends request tables ending before now =
+    (system : SystemParts) × (folder_outcome tables ≡ Ok system) × Answers request system ending before now
 
 -- whether a read failed, and whether the write of the answer did
 abbrev pub is_shelf_failure : Ending → Bool
@@ -138,15 +141,35 @@ says_written ends = says_write_fault ends
 
 -- a line has run: the tables of its folder were read up to the first that ends the reading, the run ended as these
 -- tables and the command have it, and that was told
-pub record HasRun (contents : Option Tables) (line : LineWords) (ends : Status) (reads reads' : List Reading) (counts counts' : ShelfCounts) (held held' : Option (List ℕ)) (said said' : Option (List ℕ)) (faults faults' : ℕ) : Type 0 where
+pub record HasRun (contents : Option Tables) (line : LineParts) (ends : Status) (reads reads' : List Reading) (counts counts' : ShelfCounts) (held held' : Option (List ℕ)) (said said' : Option (List ℕ)) (faults faults' : ℕ) : Type 0 where
   pub tables : Result TableBytes FolderError
   pub ending : Ending
-  pub read : HasRead contents line.folder no_tables table_order tables reads reads' counts counts'
-  pub ended : Ends line.command tables ending held held'
+  pub read : HasRead contents line.place no_tables table_order tables reads reads' counts counts'
+  pub ended : Ends (request_of line) tables ending held held'
   pub told : Tells ending ends said said' faults faults'
 
+-- memory wasn't found before anything was read
+pub record HasNotRun (ends : Status) (reads reads' : List Reading) (counts counts' : ShelfCounts) (held held' : Option (List ℕ)) (said said' : Option (List ℕ)) (faults faults' : ℕ) : Type 0 where
+  pub noted : reads' ≡ reads
+  pub counted : counts' ≡ counts
+  pub written : held' ≡ held
+  pub told : Tells (Err OutOfMemory) ends said said' faults faults'
+
+-- a line has run, or memory wasn't found before anything was read
+abbrev pub MayRun : Option Tables → LineParts → Status → List Reading → List Reading → ShelfCounts → ShelfCounts → Option (List ℕ) → Option (List ℕ) → Option (List ℕ) → Option (List ℕ) → ℕ → ℕ → Type 0
+MayRun contents line ends reads reads' counts counts' held held' said said' faults faults' =
+    HasRun contents line ends reads reads' counts counts' held held' said said' faults faults'
+    ⊎ HasNotRun ends reads reads' counts counts' held held' said said' faults faults'
+
 -- a line has run on the stored tables of its folder, unless a read of them failed
-pub record RunsOn (stored : Tables) (line : LineWords) (ends : Status) (held held' : Option (List ℕ)) (said said' : Option (List ℕ)) (faults faults' : ℕ) : Type 0 where
+pub record RunsOn (stored : Tables) (line : LineParts) (ends : Status) (held held' : Option (List ℕ)) (said said' : Option (List ℕ)) (faults faults' : ℕ) : Type 0 where
   pub ending : Ending
-  pub ended : (ending ≡ Err ReadFault) ⊎ Ends line.command (stored_tables stored line.folder) ending held held'
+  pub ended : (ending ≡ Err ReadFault) ⊎ Ends (request_of line) (stored_tables stored line.place) ending held held'
   pub told : Tells ending ends said said' faults faults'
+
+-- words have given this line, or their first fault, or memory wasn't found
+abbrev pub IsAsked : Result LineParts WordFault → Result LineParts Failure → Type 0
+IsAsked asked (Ok line) = asked ≡ Ok line
+IsAsked asked (Err (Words fault)) = asked ≡ Err fault
+IsAsked asked (Err OutOfMemory) = Unit {0}
+IsAsked asked (Err _) = ⊥

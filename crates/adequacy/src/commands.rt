@@ -1,17 +1,19 @@
 //! What each command answers: the bytes of its text for a system.
-ghost use Rattle.std.specs.Prelude.{◌≡◌, ◌<◌, ◌≤◌, IfOk, IsTrue, None};
+ghost use Rattle.std.specs.Prelude.{◌≡◌, ◌<◌, ◌≤◌, IfOk, None, true};
 ghost use Rattle.ra_base.specs.declared.limits.TheConstants.{MOST_POOLED_MW};
 ghost use Rattle.analytic_index.specs.Pool.{IsNewUnit, pool_of};
-ghost use Rattle.adequacy.specs.declared.words.Command.{Command};
+ghost use Rattle.adequacy.specs.declared.words.request.Request.{Request};
 ghost use Rattle.index_text.specs.TableText.{table_text};
 ghost use Rattle.index_text.specs.IndexText.{index_text};
-ghost use Rattle.adequacy.specs.Commands.{IsAnswer, check_text, is_built, IsInRange};
+ghost use Rattle.adequacy.specs.Commands.{IsAnswer, check_text, can_answer, is_built as built};
+ghost use Rattle.adequacy.specs.LineParts.{LineParts};
+ghost use Rattle.adequacy.specs.Requests.{AreRequested};
 
 use crate::report_text::put_check;
 use crate::studies::make_study_text;
-use crate::words::Command;
-use analytic_index::{Analysis, NewUnit};
-use capacity_credit::{Kind, Measure, Steps, credit};
+use crate::words::{Command, CreditTerms, Request};
+use analytic_index::Analysis;
+use capacity_credit::{Steps, credit};
 use index_text::{put_bracket, put_index, put_table};
 use load_model::NetLoad;
 use ra_base::{OutOfMemory, Text};
@@ -20,27 +22,25 @@ use std::marker::Brand;
 use std::sync::ledger::{Blank, Ledger};
 use system_model::System;
 
-/// The bytes that answer a command for a system.
+/// The bytes that answer a request for a system.
 pub(crate) fn make_answer(
     alloc: Global,
     system: &System,
-    command: Command,
+    request: Request,
 ) -> Result<Text, OutOfMemory>
-    requires built { IsTrue (is_built command system.now) }
-    requires range { IsInRange command }
-    ensures { IfOk result (IsAnswer command system.now) }
+    requires built { can_answer request ≡ true }
+    requires terms { (line : LineParts) × AreRequested line request }
+    ensures { IfOk result (IsAnswer request system.now) }
 {
-    match command {
-        Command::Check => make_check_text(alloc, system),
-        Command::Table => make_table_text(alloc, system),
-        Command::Index => make_index_text(alloc, system),
-        Command::Credit {
-            kind,
-            measure,
-            unit,
-            most,
-        } => make_credit_text::<Brand>(alloc, Blank::new(1), system, kind, measure, unit, most),
-        Command::Study { samples, seed } => make_study_text(alloc, system, samples, seed),
+    match request {
+        Request::Check => make_check_text(alloc, system),
+        Request::Table => make_table_text(alloc, system),
+        Request::Index => make_index_text(alloc, system),
+        Request::Credit(terms) => {
+            make_credit_text::<Brand>(alloc, Blank::new(1), system, terms)
+        }
+        Request::Study(terms) => make_study_text(alloc, system, terms),
+        Request::Trace(_) | Request::Trial { .. } | Request::Console(_) => unreachable!(),
     }
 }
 
@@ -79,31 +79,36 @@ fn make_credit_text<L: Ledger>(
     alloc: Global,
     blank: Blank,
     system: &System,
-    kind: Kind,
-    measure: Measure,
-    unit: NewUnit,
-    most: u32,
+    terms: CreditTerms,
 ) -> Result<Text, OutOfMemory>
     requires name { blank.name ≡ L.name }
     requires parts { blank.parts ≡ L.parts }
     requires some { 0 < blank.parts }
-    requires unit { IsNewUnit unit }
-    requires most { most ≤ MOST_POOLED_MW }
-    ensures { IfOk result (IsAnswer (Command.Credit kind measure unit most) system.now) }
+    requires unit { IsNewUnit terms.unit }
+    requires most { terms.most ≤ MOST_POOLED_MW }
+    ensures { IfOk result (IsAnswer (Request.Credit terms) system.now) }
 {
     let mut steps = Steps::<L>::open(blank);
-    let bracket = credit(alloc, system, &unit, kind, measure, most, &mut steps)?;
+    let bracket = credit(
+        alloc,
+        system,
+        &terms.unit,
+        terms.kind,
+        terms.measure,
+        terms.most,
+        &mut steps,
+    )?;
     let mut text = Text::new(alloc);
-    put_bracket(&mut text, kind, measure, &bracket)?;
+    put_bracket(&mut text, terms.kind, terms.measure, &bracket)?;
     Ok(text)
 }
 
-/// Whether a command can be run on a system: a study runs systems of one zone without storages.
-pub(crate) fn can_run(command: Command, system: &System) -> bool
-    ensures { result ≡ is_built command system.now }
+/// Whether a command is built.
+pub(crate) fn is_built(command: Command) -> bool
+    ensures { result ≡ built command }
 {
     match command {
-        Command::Check | Command::Table | Command::Index | Command::Credit { .. } => true,
-        Command::Study { .. } => system.zones() == 1 && system.storages() == 0,
+        Command::Check | Command::Table | Command::Index | Command::Credit | Command::Study => true,
+        Command::Trace | Command::Trial | Command::Console => false,
     }
 }

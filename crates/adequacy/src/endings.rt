@@ -2,21 +2,21 @@
 ghost use Rattle.std.specs.Prelude.{◌≡◌, ◌++◌, codes, IfOk, Err};
 ghost use Rattle.adequacy.specs.Endings.{failure_of, unread_failure, refusal_line, ErrGains, Reports, Tells};
 ghost use Rattle.adequacy.specs.FaultText.{table_text};
+ghost use Rattle.adequacy.specs.WordFaultText.{word_fault_text};
 
 use crate::report_text::{name_of, put_table_fault};
 use crate::tables::{FolderError, Refusal};
+use crate::words::{WordFault, put_word_fault};
 use ra_base::{OutOfMemory, Sink, Status, TableName, Text};
 use std::alloc::Global;
 
 /// Why a run ends without its answer.
 #[derive(Clone, Copy, Debug, PartialEq, Eq)]
 pub enum Failure {
-    /// The words spell no line.
-    Words,
+    /// The words spell no line, by their first fault.
+    Words(WordFault),
     /// The tables of the folder are refused.
     Refused(Refusal),
-    /// The system is one that the command can't run yet.
-    NotBuilt,
     /// A read of the shelf failed.
     ReadFault,
     /// The write of the answer failed.
@@ -45,14 +45,16 @@ pub(crate) fn folder_failure(error: FolderError) -> Failure
     }
 }
 
-/// Writes the line of a failure, in one write, and gives its status. Where there is no memory to write a
-/// refusal, the failure is that.
+/// Writes the line of a failure, in one write, and gives its status. Where there is no memory to write what
+/// is wrong with words or tables, the failure is that.
 pub(crate) fn report<E: Sink>(alloc: Global, failure: Failure, err: &mut E) -> Status
     ensures { Reports failure result (E.held err.old) (E.held err.new) (E.faults err.old) (E.faults err.new) }
 {
     match failure {
-        Failure::Words => tell(err, b"words: usage\n", Status::Words),
-        Failure::NotBuilt => tell(err, b"system not built\n", Status::Table),
+        Failure::Words(fault) => match words_text(alloc, fault) {
+            Ok(text) => tell(err, text.bytes(), Status::Words),
+            Err(OutOfMemory) => tell(err, b"out of memory\n", Status::OutOfMemory),
+        },
         Failure::ReadFault => tell(err, b"read fault\n", Status::ReadFault),
         Failure::WriteFault => tell(err, b"write fault\n", Status::WriteFault),
         Failure::OutOfMemory => tell(err, b"out of memory\n", Status::OutOfMemory),
@@ -81,6 +83,15 @@ fn tell<E: Sink>(err: &mut E, line: &[u8], status: Status) -> Status
 {
     let _ = err.write(line);
     status
+}
+
+// The line of a fault in the words.
+fn words_text(alloc: Global, fault: WordFault) -> Result<Text, OutOfMemory>
+    ensures { IfOk result (λ text. text ≡ word_fault_text fault) }
+{
+    let mut text = Text::new(alloc);
+    put_word_fault(&mut text, fault)?;
+    Ok(text)
 }
 
 // The line of refused tables.

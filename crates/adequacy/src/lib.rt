@@ -12,4 +12,7 @@ mod words;
 pub use endings::{Failure, Unread, report_unread};
 pub use tables::{FolderError, Refusal};
 pub use top::adequacy;
-pub use words::{Command, Line, read_line};
+pub use words::{
+    Command, ConsoleTerms, CreditTerms, Line, Place, Request, StudyTerms, TraceTerms, WordFault,
+    WordsError, put_word_fault, read_words,
+};

@@ -106,7 +106,42 @@ const GAP: (TableName, &str) = (TableName::Load, "hour,A\n0,10\n1,10\n3,10\n");
 
 const TWO_ZONES: (TableName, &str) = (TableName::Zones, "name\nA\nB\n");
 
-const TWO_LOADS: (TableName, &str) = (TableName::Load, "hour,A,B\n0,10,10\n");
+const TWO_LOADS: (TableName, &str) = (TableName::Load, "hour,A,B\n0,40,50\n");
+
+// 70 MW that are never out, and 30 MW from the first zone to the second.
+const SEVENTY_MW: (TableName, &str) = (
+    TableName::Units,
+    "name,zone,capacity,failure,repair\nU1,A,70,0,1\n",
+);
+
+const ONE_WAY: (TableName, &str) = (
+    TableName::Interfaces,
+    "name,from,to,forward,backward\nI,A,B,30,0\n",
+);
+
+// 10 MW in the middle of three zones, of which the outer two want 10 MW each.
+const THREE_ZONES: (TableName, &str) = (TableName::Zones, "name\nA\nB\nC\n");
+
+const MIDDLE_UNIT: (TableName, &str) = (
+    TableName::Units,
+    "name,zone,capacity,failure,repair\nU1,B,10,0,1\n",
+);
+
+const CHAIN: (TableName, &str) = (
+    TableName::Interfaces,
+    "name,from,to,forward,backward\nI,A,B,10,10\nJ,B,C,10,10\n",
+);
+
+const THREE_LOADS: (TableName, &str) = (TableName::Load, "hour,A,B,C\n0,10,0,10\n");
+
+const NO_UNIT: (TableName, &str) = (TableName::Units, "name,zone,capacity,failure,repair\n");
+
+const BATTERY: (TableName, &str) = (
+    TableName::Storages,
+    "name,zone,charge,discharge,energy_kwh,start_kwh,charge_efficiency,discharge_efficiency,carryover,failure,repair\nS,A,20,20,60000,60000,1,0.9,1,0,1\n",
+);
+
+const FOUR_HOURS: (TableName, &str) = (TableName::Load, "hour,A\n0,30\n1,30\n2,30\n3,30\n");
 
 // Three units that are out a fiftieth of the time, under 8 MW; and one of 100 MW under 80 MW.
 const THREE_UNITS: (TableName, &str) = (
@@ -149,8 +184,48 @@ low none
 high 1 at low 1.579999999999 high 1.580000000001
 ";
 
+const BOTH_SHORT: &str = "samples 1
+hours sum 1 mean 1.000 error -
+days sum 1 mean 1.000 error -
+events sum 1 mean 1.000 error -
+unserved sum 20 mean 20.000 error -
+zone A sum 0 mean 0.000 error -
+zone B sum 20 mean 20.000 error -
+cut A+B hours 1 unserved 20
+";
+
+const SECOND_SHORT: &str = "samples 1
+hours sum 1 mean 1.000 error -
+days sum 1 mean 1.000 error -
+events sum 1 mean 1.000 error -
+unserved sum 20 mean 20.000 error -
+zone A sum 0 mean 0.000 error -
+zone B sum 20 mean 20.000 error -
+cut B hours 1 unserved 20
+";
+
+const LAST_SHORT: &str = "samples 1
+hours sum 1 mean 1.000 error -
+days sum 1 mean 1.000 error -
+events sum 1 mean 1.000 error -
+unserved sum 10 mean 10.000 error -
+zone A sum 0 mean 0.000 error -
+zone B sum 0 mean 0.000 error -
+zone C sum 10 mean 10.000 error -
+cut A+B+C hours 1 unserved 10
+";
+
+const DRAINED: &str = "samples 1
+hours sum 4 mean 4.000 error -
+days sum 1 mean 1.000 error -
+events sum 1 mean 1.000 error -
+unserved sum 67 mean 67.000 error -
+zone A sum 67 mean 67.000 error -
+cut A hours 4 unserved 67
+";
+
 // What is known by hand: studies, checks, refused tables and refused words.
-const CASES: [Case; 25] = [
+const CASES: [Case; 30] = [
     Case {
         tables: &[ZONE, THREE_UNITS, ONE_HOUR],
         command: "table",
@@ -228,7 +303,7 @@ const CASES: [Case; 25] = [
         ],
         status: Status::Words,
         out: "",
-        err: "words: usage\n",
+        err: "words: --repair is bad\n",
     },
     Case {
         tables: &[ZONE, FIFTIETH_OUT, EIGHTY_MW],
@@ -236,7 +311,7 @@ const CASES: [Case; 25] = [
         options: &["--kind", "efc"],
         status: Status::Words,
         out: "",
-        err: "words: usage\n",
+        err: "words: --measure is missing\n",
     },
     Case {
         tables: &[ZONE, NEVER_OUT, DAY],
@@ -318,13 +393,58 @@ const CASES: [Case; 25] = [
         out: "",
         err: "table units row 2 column repair: both rates are zero\n",
     },
+    // One sample isn't enough for a precision, and two are.
     Case {
-        tables: &[TWO_ZONES, NEVER_OUT, TWO_LOADS],
+        tables: &[ZONE, ALWAYS_OUT, DAY],
         command: "study",
-        options: &["--samples", "2", "--seed", "1"],
-        status: Status::Table,
+        options: &["--precision", "10", "--samples", "1", "--most", "3"],
+        status: Status::Done,
+        out: ALL_SHORT,
+        err: "",
+    },
+    // The two zones together have too little, whatever goes from one to the other; with more in the first
+    // zone it is the second alone, behind its interface.
+    Case {
+        tables: &[TWO_ZONES, SEVENTY_MW, ONE_WAY, TWO_LOADS],
+        command: "study",
+        options: &["--samples", "1"],
+        status: Status::Done,
+        out: BOTH_SHORT,
+        err: "",
+    },
+    Case {
+        tables: &[TWO_ZONES, NEVER_OUT, ONE_WAY, TWO_LOADS],
+        command: "study",
+        options: &["--samples", "1"],
+        status: Status::Done,
+        out: SECOND_SHORT,
+        err: "",
+    },
+    // The first of two zones that want the same is served.
+    Case {
+        tables: &[THREE_ZONES, MIDDLE_UNIT, CHAIN, THREE_LOADS],
+        command: "study",
+        options: &["--samples", "1"],
+        status: Status::Done,
+        out: LAST_SHORT,
+        err: "",
+    },
+    // A store of 60 MWh that gives nine tenths of what it loses, and no unit.
+    Case {
+        tables: &[ZONE, NO_UNIT, BATTERY, FOUR_HOURS],
+        command: "study",
+        options: &["--samples", "1", "--seed", "1"],
+        status: Status::Done,
+        out: DRAINED,
+        err: "",
+    },
+    Case {
+        tables: &[ZONE, NEVER_OUT, DAY],
+        command: "console",
+        options: &["--samples", "1"],
+        status: Status::Words,
         out: "",
-        err: "system not built\n",
+        err: "words: no such command\n",
     },
     Case {
         tables: &[ZONE, NEVER_OUT, DAY],
@@ -332,7 +452,7 @@ const CASES: [Case; 25] = [
         options: &["--samples", "1000001"],
         status: Status::Words,
         out: "",
-        err: "words: usage\n",
+        err: "words: --samples is bad\n",
     },
     Case {
         tables: &[ZONE, NEVER_OUT, DAY],
@@ -340,7 +460,7 @@ const CASES: [Case; 25] = [
         options: &["--samples", "0"],
         status: Status::Words,
         out: "",
-        err: "words: usage\n",
+        err: "words: --samples is bad\n",
     },
     Case {
         tables: &[ZONE, NEVER_OUT, DAY],
@@ -356,7 +476,7 @@ const CASES: [Case; 25] = [
         options: &["--seed", "1"],
         status: Status::Words,
         out: "",
-        err: "words: usage\n",
+        err: "words: --samples is missing\n",
     },
     Case {
         tables: &[ZONE, NEVER_OUT, DAY],
@@ -364,7 +484,7 @@ const CASES: [Case; 25] = [
         options: &["--samples", "2", "--seed", "x"],
         status: Status::Words,
         out: "",
-        err: "words: usage\n",
+        err: "words: --seed is bad\n",
     },
     Case {
         tables: &[ZONE, NEVER_OUT, DAY],
@@ -380,7 +500,7 @@ const CASES: [Case; 25] = [
         options: &["--samples", "2"],
         status: Status::Words,
         out: "",
-        err: "words: usage\n",
+        err: "words: --samples is not for check\n",
     },
     Case {
         tables: &[ZONE, NEVER_OUT, DAY],
@@ -388,7 +508,7 @@ const CASES: [Case; 25] = [
         options: &[],
         status: Status::Words,
         out: "",
-        err: "words: usage\n",
+        err: "words: no such command\n",
     },
 ];
 
