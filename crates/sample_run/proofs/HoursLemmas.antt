@@ -1,70 +1,201 @@
-use Rattle.std.proofs.Common.{◌≡◌, ℕ, ◌+◌, ◌*◌, ◌/◌, ◌%◌, ◌^◌, ◌<◌, ◌≤◌, Bool, true, false, cond, List, length, get_or, set, take, refl, ap, ◌∙◌, arith, ⊎_elim}
-use Rattle.std.specs.Prelude.{sum_by}
-use Rattle.std.proofs.lemmas.List.Sums.{sum_by_push}
-use Rattle.std.proofs.lemmas.List.{take_more_set, get_or-set_same, get_or-set_other}
-use Rattle.std.proofs.Math.Nat.{mod-eq_of_lt}
-use Rattle.std.proofs.lemmas.Bool.{cases_eq}
-use Rattle.std.proofs.lemmas.Nat.{mul-le, div-mul-add, mod-mul-add}
-use Rattle.sample_run.specs.declared.unit_states.UnitState.{UnitState}
-use Rattle.sample_streams.specs.Draw.{draw, Draws}
-use Rattle.sample_run.specs.UnitStates.{state_in, unit_supply, no_state}
+-- What an hour leaves.
+use Rattle.std.proofs.Common.{◌≡◌, ℕ, ◌+◌, ◌<◌, ◌≤◌, ◌^◌, Bool, true, false, List, length, get_or, refl, ap, sym, ◌∙◌, subst, arith}
+use Rattle.std.specs.Prelude.{map, All}
+use Rattle.std.specs.List.{range_with_len}
+use Rattle.std.proofs.lemmas.List.{length-map}
+use Rattle.std.proofs.lemmas.List.FromFn.{length-map-range_with_len, get_or-map-range_with_len}
+use Rattle.std.proofs.lemmas.List.Elements.{All-map, All-weaker}
+use Rattle.system_model.specs.declared.components.Interface.{Interface}
+use Rattle.system_model.specs.declared.components.Storage.{Storage}
+use Rattle.system_model.specs.System.{SystemParts, IsValid, IsInterfaceAmong, IsStorageAmong, zone_count, storage_count, interface_count, storage_at}
+use Rattle.outage_chronology.specs.Outages.{storage_component}
+use Rattle.outage_chronology.specs.Standing.{Standing}
+use Rattle.storage_state.specs.Energy.{caps_if, caps_of}
+use Rattle.storage_state.specs.Holdings.{Holdings, IsWithinCaps, carried_energies, energy_of}
+use Rattle.zone_network.specs.Sums.{NumberSet}
+use Rattle.zone_network.specs.Network.{ShapeParts, NetworkParts, IsShape, IsLinkAmong, device_count, discharge_cap_at, charge_cap_at}
+use Rattle.zone_network.specs.Cut.{IsCut}
+use Rattle.sample_totals.specs.declared.outcomes.HourOutcome.{HourOutcome}
+use Rattle.cut_certificate.specs.declared.chains.Chain.{Chain}
+use Rattle.cut_certificate.specs.Chain.{AreSized, Fit, IsAccepted, IsBestOutcome, all_unserved}
+use Rattle.cut_certificate.specs.Least.{IsLeastUnserved}
+use Rattle.sample_run.specs.HourNetwork.{shape_of, link_of, network_of, device_caps}
+use Rattle.sample_run.specs.Run.{IsHour, energies_after}
+use Rattle.sample_run.specs.Moments.{IsKept}
 
--- the draw of a unit in this hour
-abbrev pub word_of : Draws → ℕ → ℕ → ℕ
-word_of draws hour unit = draw draws.components draws.seed draws.sample hour unit
-
--- the first i units have gone on to the hour
-pub record IsHalfway (old : List UnitState) (first : Draws) (hour i : ℕ) (units : List UnitState) (now : Draws) (supply : ℕ) : Type 0 where
-  pub draws_are : now ≡ record first { place = hour * first.components + i }
-  pub done : (k : ℕ) → k < i → get_or units k no_state ≡ state_in hour (get_or old k no_state) (word_of first hour k)
-  pub rest : (k : ℕ) → i ≤ k → get_or units k no_state ≡ get_or old k no_state
-  pub supply_is : supply ≡ sum_by unit_supply (take i units)
-  pub bound : supply ≤ i * 200000
-
-pub halfway-none : (old : List UnitState) (first : Draws) (hour : ℕ) → first.place ≡ hour * first.components → IsHalfway old first hour 0 old first 0
-halfway-none old first hour e = record {
-  draws_are = ap (λ p. record first { place = p }) (let f : first.place ≡ hour * first.components + 0 = omega arith in f);
-  done = λ k l. absurd (omega arith);
-  rest = λ k g. refl;
-  supply_is = refl;
-  bound = omega arith;
-}
-
-sum-set : (units : List UnitState) (i : ℕ) (unit : UnitState) → i < length units → sum_by unit_supply (take (i + 1) (set units i unit)) ≡ sum_by unit_supply (take i units) + unit_supply unit
-sum-set units i unit h = ap (λ xs. sum_by unit_supply xs) (take_more_set units i unit h) ∙ sum_by_push unit_supply (take i units) unit
-
-supply-le : (unit : UnitState) → unit_supply unit ≤ unit.capacity
-supply-le unit = go unit.is_up unit.capacity
-  where
-    go : (b : Bool) (n : ℕ) → cond b n 0 ≤ n
-    go true n = omega arith
-    go false n = omega arith
-
-pub halfway-more : (old : List UnitState) (first : Draws) (hour i : ℕ) (units : List UnitState) (now next : Draws) (supply word : ℕ) → IsHalfway old first hour i units now supply → i < length units → length old ≡ first.components → length units ≡ length old → length old ≤ 2048 → hour < 8784 → ((k : ℕ) → k < length old → (get_or old k no_state).capacity ≤ 200000)
-    → word ≡ draw now.components now.seed now.sample (now.place / now.components) (now.place % now.components) → next ≡ record now { place = (now.place + 1) % 2 ^ 68 }
-    → IsHalfway old first hour (i + 1) (set units i (state_in hour (get_or units i no_state) word)) next (supply + unit_supply (state_in hour (get_or units i no_state) word))
-halfway-more old first hour i units now next supply word is h size same_size few early small word_is next_is =
-    let place = hour * first.components + i in
-    let at : Draws = record first { place = place } in
-    let fits : place + 1 < 2 ^ 68 = omega (arith, mul-le hour first.components 8784 2048 (omega arith) (omega arith)) in
-    let hour_is : place / first.components ≡ hour = div-mul-add hour first.components i (omega arith) in
-    let unit_is : place % first.components ≡ i = mod-mul-add hour first.components i (omega arith) in
-    let drawn : word ≡ word_of first hour i = word_is
-    ∙ ap (λ (d : Draws). draw d.components d.seed d.sample (d.place / d.components) (d.place % d.components)) is.draws_are
-    ∙ ap (λ a. draw first.components first.seed first.sample a (place % first.components)) hour_is
-    ∙ ap (λ b. draw first.components first.seed first.sample hour b) unit_is in
-    let unit = state_in hour (get_or units i no_state) word in
-    let was : get_or units i no_state ≡ get_or old i no_state = is.rest i (omega arith) in
-    let unit_now : unit ≡ state_in hour (get_or old i no_state) (word_of first hour i) = ap (λ (u : UnitState). state_in hour u word) was ∙ ap (λ w. state_in hour (get_or old i no_state) w) drawn in
-    let capacity : unit.capacity ≤ 200000 = (let c = small i (omega arith) in rw was c) in
-    let moved : (at.place + 1) % 2 ^ 68 ≡ hour * first.components + (i + 1) = mod-eq_of_lt fits ∙ (let e : place + 1 ≡ hour * first.components + (i + 1) = omega arith in e) in
+-- the shape of a valid system's networks is one
+pub shape-valid : (system : SystemParts) → IsValid system → IsShape (shape_of system)
+shape-valid system valid =
     record {
-      draws_are = next_is ∙ ap (λ (d : Draws). record d { place = (d.place + 1) % 2 ^ 68 }) is.draws_are ∙ ap (λ p. record first { place = p }) moved;
-      done = λ k l. ⊎_elim
-          (λ (here : k ≡ i). rw (here, get_or-set_same units i unit no_state h) unit_now)
-          (λ (there : k ≡ i → ⊥). get_or-set_other units i k unit no_state there ∙ is.done k (omega (arith, there)))
-          (cases_eq k i);
-      rest = λ k g. get_or-set_other units i k unit no_state (λ e. omega arith) ∙ is.rest k (omega arith);
-      supply_is = omega (arith, is.supply_is, sum-set units i unit h);
-      bound = omega (arith, is.bound, supply-le unit, capacity);
+      some = valid.zone;
+      zones = valid.within.zones;
+      links = omega (arith, length-map system.interfaces link_of, valid.within.interfaces.most);
+      devices = omega (arith, length-map system.storages (λ (storage : Storage). storage.zone), valid.within.storages.most);
+      each_link = All-map (IsLinkAmong (zone_count system)) link_of system.interfaces (All-weaker (IsInterfaceAmong (zone_count system)) (λ i. IsLinkAmong (zone_count system) (link_of i)) link_among system.interfaces valid.within.interfaces.each);
+      each_device =
+          All-map (λ zone. zone < zone_count system) (λ (storage : Storage). storage.zone) system.storages
+          (All-weaker (IsStorageAmong (zone_count system)) (λ s. s.zone < zone_count system) zone_among system.storages valid.within.storages.each);
+    }
+  where
+    link_among : (i : Interface) → IsInterfaceAmong (zone_count system) i → IsLinkAmong (zone_count system) (link_of i)
+    link_among i is = record { start = is.start; end = is.end; apart = is.apart }
+
+    zone_among : (s : Storage) → IsStorageAmong (zone_count system) s → s.zone < zone_count system
+    zone_among s is = is.zone
+
+pub network-shape : (system : SystemParts) (up : NumberSet) (energies : List ℕ) (hour : ℕ) → (network_of system up energies hour).shape ≡ shape_of system
+unfolding network_of
+network-shape system up energies hour = refl
+
+pub devices-count : (system : SystemParts) (n : NetworkParts) → n.shape ≡ shape_of system → device_count n.shape ≡ storage_count system
+devices-count system n is = ap device_count is ∙ length-map system.storages (λ (storage : Storage). storage.zone)
+
+-- the sizes of an outcome and a chain are the same for each network of the shape, whatever the outcome's hour
+pub sized-again : (n m : NetworkParts) (outcome : HourOutcome) (hour : ℕ) (chain : Chain)
+    → n.shape ≡ m.shape
+    → AreSized n outcome chain
+    → AreSized m (record outcome { hour = hour }) chain
+sized-again n m outcome hour chain same is =
+    let sized = subst (λ (s : ShapeParts). AreSized (record n { shape = s }) outcome chain) same is in
+    record {
+      unserved = sized.unserved;
+      discharge = sized.discharge;
+      charge = sized.charge;
+      energy = sized.energy;
+      flows = sized.flows;
+      generation = sized.generation;
+      sets = sized.sets;
+    }
+
+-- what a feasible dispatch charges and discharges is within the caps of the storages, up or out
+charge-below : (up : Bool) (storage : Storage) (energy : ℕ) → (caps_if up storage energy).charge ≤ (caps_of storage energy).charge
+charge-below true storage energy = omega arith
+charge-below false storage energy = omega arith
+
+discharge-below : (up : Bool) (storage : Storage) (energy : ℕ) → (caps_if up storage energy).discharge ≤ (caps_of storage energy).discharge
+discharge-below true storage energy = omega arith
+discharge-below false storage energy = omega arith
+
+charge-cap : (system : SystemParts) (up : NumberSet) (energies : List ℕ) (hour k : ℕ)
+    → k < storage_count system
+    → charge_cap_at (network_of system up energies hour) k ≡ (device_caps system up energies k).charge
+unfolding network_of
+charge-cap system up energies hour k below =
+    get_or-map-range_with_len (λ d. (device_caps system up energies d).charge) 0 (storage_count system) k k 0 below (omega arith)
+
+discharge-cap : (system : SystemParts) (up : NumberSet) (energies : List ℕ) (hour k : ℕ)
+    → k < storage_count system
+    → discharge_cap_at (network_of system up energies hour) k ≡ (device_caps system up energies k).discharge
+unfolding network_of
+discharge-cap system up energies hour k below =
+    get_or-map-range_with_len (λ d. (device_caps system up energies d).discharge) 0 (storage_count system) k k 0 below (omega arith)
+
+pub within-caps : (system : SystemParts) (up : NumberSet) (held : Holdings) (hour : ℕ) (n : NetworkParts) (outcome : HourOutcome) (chain : Chain)
+    → held.system ≡ system
+    → n ≡ network_of system up held.energies hour
+    → IsAccepted n outcome chain
+    → (k : ℕ)
+    → k < storage_count system
+    → IsWithinCaps held k (get_or outcome.charge k 0) (get_or outcome.discharge k 0)
+within-caps system up held hour n outcome chain same is accepted k below =
+    let among : k < device_count n.shape =
+    omega (arith, devices-count system n (ap (λ (m : NetworkParts). m.shape) is ∙ network-shape system up held.energies hour)) in
+    let storage = ap (λ (s : SystemParts). storage_at s k) same in
+    record {
+      charge =
+          omega (
+            arith,
+            accepted.0.feasible.charge k among,
+            ap (λ (m : NetworkParts). charge_cap_at m k) is,
+            charge-cap system up held.energies hour k below,
+            charge-below (up (storage_component system k)) (storage_at system k) (energy_of held k),
+            ap (λ (s : Storage). (caps_of s (energy_of held k)).charge) storage,
+          );
+      discharge =
+          omega (
+            arith,
+            accepted.0.feasible.discharge k among,
+            ap (λ (m : NetworkParts). discharge_cap_at m k) is,
+            discharge-cap system up held.energies hour k below,
+            discharge-below (up (storage_component system k)) (storage_at system k) (energy_of held k),
+            ap (λ (s : Storage). (caps_of s (energy_of held k)).discharge) storage,
+          );
+    }
+
+-- what is kept still belongs to the system
+pub kept-again : (system : SystemParts) (standing : Standing) (held held' : Holdings) (n : NetworkParts) (dispatcher : ShapeParts) (outcome : HourOutcome) (energies : List ℕ) (chain : Chain)
+    → standing.system ≡ system
+    → held.system ≡ system
+    → n.shape ≡ shape_of system
+    → dispatcher ≡ n.shape
+    → Fit n outcome chain
+    → energies ≡ energies_after system held.energies outcome.charge outcome.discharge
+    → held' ≡ record held { energies = energies }
+    → IsKept system standing held' n dispatcher (record outcome { energy = energies }) chain
+kept-again system standing held held' n dispatcher outcome energies chain stands holds shape dispatches fit after is =
+    let size : length energies ≡ storage_count system = ap length after ∙ length-map-range_with_len _ 0 (storage_count system) in
+    record {
+      chronology = stands;
+      storages = ap (λ (h : Holdings). h.system) is ∙ holds;
+      held = ap (λ (h : Holdings). length h.energies) is ∙ size;
+      shape = shape;
+      dispatches = dispatches ∙ shape;
+      sizes =
+          record {
+            unserved = fit.sizes.unserved;
+            discharge = fit.sizes.discharge;
+            charge = fit.sizes.charge;
+            energy = size ∙ sym (devices-count system n shape);
+            flows = fit.sizes.flows;
+            generation = fit.sizes.generation;
+            sets = fit.sizes.sets;
+          };
+    }
+
+-- the outcome of the best dispatch, with the energies after it, is that of the hour
+pub hour-made : (system : SystemParts) (up : NumberSet) (before : List ℕ) (hour : ℕ) (n : NetworkParts) (outcome : HourOutcome) (energies : List ℕ) (chain : Chain)
+    → n ≡ network_of system up before hour
+    → outcome.hour ≡ hour
+    → Fit n outcome chain
+    → IsBestOutcome n outcome
+    → IsCut n (all_unserved n outcome) outcome.cut
+    → energies ≡ energies_after system before outcome.charge outcome.discharge
+    → IsHour system up before hour (record outcome { energy = energies })
+hour-made system up before hour n outcome energies chain is number fit best cut after =
+    let shape : n.shape ≡ shape_of system = ap (λ (m : NetworkParts). m.shape) is ∙ network-shape system up before hour in
+    let now : HourOutcome = record outcome { energy = energies } in
+    let best' : IsBestOutcome n now =
+    (best.0, best.1, record { unserved = best.2.unserved; discharge = best.2.discharge; charge = best.2.charge }) in
+    record {
+      number = number;
+      zones = fit.sizes.unserved ∙ ap (λ (s : ShapeParts). s.zones) shape;
+      discharges = fit.sizes.discharge ∙ devices-count system n shape;
+      charges = fit.sizes.charge ∙ devices-count system n shape;
+      best = subst (λ (m : NetworkParts). IsBestOutcome m now) is best';
+      energy = after;
+      cut = subst (λ (m : NetworkParts). IsCut m (all_unserved m now) now.cut) is cut;
+    }
+
+pub least-made : (system : SystemParts) (up : NumberSet) (before : List ℕ) (hour : ℕ) (n : NetworkParts) (outcome : HourOutcome)
+    → n ≡ network_of system up before hour
+    → IsLeastUnserved n (all_unserved n outcome)
+    → IsLeastUnserved (network_of system up before hour) (all_unserved (network_of system up before hour) outcome)
+least-made system up before hour n outcome is least = subst (λ (m : NetworkParts). IsLeastUnserved m (all_unserved m outcome)) is least
+
+-- what is kept is kept on over the next hour
+pub kept-next : (system : SystemParts) (standing standing' : Standing) (held held' : Holdings) (n : NetworkParts) (dispatcher : ShapeParts) (outcome : HourOutcome) (chain : Chain)
+    → standing'.system ≡ standing.system
+    → held' ≡ record held { energies = carried_energies held.system held.energies }
+    → IsKept system standing held n dispatcher outcome chain
+    → IsKept system standing' held' n dispatcher outcome chain
+kept-next system standing standing' held held' n dispatcher outcome chain stands is kept =
+    record {
+      chronology = stands ∙ kept.chronology;
+      storages = ap (λ (h : Holdings). h.system) is ∙ kept.storages;
+      held =
+          ap (λ (h : Holdings). length h.energies) is ∙ length-map-range_with_len _ 0 (storage_count held.system)
+          ∙ ap storage_count kept.storages;
+      shape = kept.shape;
+      dispatches = kept.dispatches;
+      sizes = kept.sizes;
     }

@@ -1,8 +1,6 @@
-pub mod CutRowsLemmas
-pub mod Counting
-pub mod ResultsLemmas
-pub mod EstimatesLemmas
-pub mod TotalsLemmas
+pub mod NetworkSteps
+pub mod EnergySteps
 pub mod HoursLemmas
-pub mod RunLemmas
+pub mod RunLaws
+pub mod RunSteps
 pub mod Laws

@@ -1,10 +1,7 @@
-pub mod CutRows
-pub mod Estimates
-pub mod Keeps
-pub mod Outages
-pub mod Ready
-pub mod Results
+pub mod HourNetwork
+pub mod Stages
 pub mod Run
-pub mod Totals
-pub mod UnitStates
+pub mod Moments
+pub mod Ready
+pub mod Keeps
 pub mod WorkedRows

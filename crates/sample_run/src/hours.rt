@@ -1,29 +1,177 @@
-ghost use Rattle.std.specs.Prelude.{◌≡◌, ℕ, ◌+◌, ◌*◌, ◌^◌, ◌<◌, ◌≤◌, length, slice_index_or, sum_by};
-ghost use Rattle.sample_streams.specs.Draw.{draw};
-ghost use Rattle.sample_run.specs.UnitStates.{state_in, unit_supply, no_state};
+ghost use Rattle.std.specs.Prelude.{◌≡◌, ℕ, ◌+◌, ◌<◌, IfOk, length, slice_index};
+ghost use Rattle.system_model.specs.System.{IsValid, storage_count, hour_count};
+ghost use Rattle.storage_state.specs.Holdings.{IsWithinCaps, start_energies, carried_energies};
+ghost use Rattle.sample_run.specs.HourNetwork.{shape_of};
+ghost use Rattle.sample_run.specs.Run.{energies_after};
 
-use crate::unit_states::UnitState;
-use sample_streams::SampleStream;
+use crate::network::set_hour;
+use crate::shapes::shape_of;
+use cut_certificate::Chain;
+use hour_dispatch::Dispatcher;
+use outage_chronology::Chronology;
+use ra_base::{Amounts, OutOfMemory};
+use sample_totals::HourOutcome;
+use std::alloc::Global;
+use std::marker::Model;
+use storage_state::Storages;
+use system_model::System;
+use zone_network::Network;
 
-/// Takes the draws of an hour, and answers what the units that are up in it give in MW.
-pub(crate) fn up_supply(units: &mut [UnitState], draws: &mut SampleStream, hour: u32) -> u32
-    requires each { length units.old ≡ draws.old.components }
-    requires place { draws.old.place ≡ hour * draws.old.components }
-    requires few { length units.old ≤ 2048 }
-    requires early { hour < 8784 }
-    requires small { (k : ℕ) → k < length units.old
-        → (slice_index_or units.old k no_state).capacity ≤ 200000 }
-    ensures states { (k : ℕ) → k < length units.old
-        → slice_index_or units.new k no_state ≡ state_in hour (slice_index_or units.old k no_state)
-        (draw draws.old.components draws.old.seed draws.old.sample hour k) }
-    ensures draws { draws.new ≡ record draws.old { place = (hour + 1) * draws.old.components } }
-    ensures supply { result ≡ sum_by unit_supply units.new }
-    ensures bound { result ≤ length units.old * 200000 }
-{
-    let mut supply = 0;
-    for unit in units.iter_mut() {
-        unit.go_on(hour, draws.next_draw());
-        supply += unit.supply();
+/// The hours of a sample, one after another: which components are up, the network of the hour, its best
+/// dispatch, and the energies that it leaves. Only `new` takes memory.
+#[derive(Drop)]
+pub(crate) struct Hours<'a> {
+    system: &'a System,
+    chronology: Chronology<'a>,
+    storages: Storages<'a>,
+    network: Network,
+    dispatcher: Dispatcher,
+    chain: Chain,
+    outcome: HourOutcome,
+}
+
+impl<'a> Model for Hours<'a> {
+    ghost use Rattle.sample_run.specs.Moments.{Moment, IsKept};
+
+    ghost Value = { Moment };
+
+    ghost view = { λ h. record {
+      system = h.system.now;
+      seed = h.chronology.seed;
+      sample = h.chronology.sample;
+      hour = h.chronology.hour;
+      energies = h.storages.energies;
+      outcome = h.outcome;
+    } };
+
+    ghost invariant = { λ h. IsKept h.system.now h.chronology h.storages h.network h.dispatcher h.outcome h.chain };
+}
+
+impl<'a> Hours<'a> {
+    ghost use Rattle.cut_certificate.specs.Chain.{all_unserved};
+    ghost use Rattle.cut_certificate.specs.Least.{IsLeastUnserved};
+    ghost use Rattle.sample_run.specs.HourNetwork.{network_of};
+    ghost use Rattle.sample_run.specs.Run.{IsHour};
+    ghost use Rattle.sample_run.specs.Moments.{up_in};
+
+    /// The hours of a system under a seed, before the first of them.
+    pub fn new(alloc: Global, system: &'a System, seed: u64) -> Result<Hours<'a>, OutOfMemory>
+        ensures system { IfOk result (λ h. h.system ≡ system.now) }
+        ensures seed { IfOk result (λ h. h.seed ≡ seed) }
+    {
+        let shape = shape_of(alloc, system)?;
+        Ok(Hours {
+            system,
+            chronology: Chronology::new(alloc, system, seed)?,
+            storages: Storages::new(alloc, system)?,
+            network: Network::new(alloc, &shape)?,
+            dispatcher: Dispatcher::new(alloc, &shape)?,
+            chain: Chain::new(alloc, &shape)?,
+            outcome: HourOutcome::new(alloc, shape.zones(), shape.devices())?,
+        })
     }
-    supply
+
+    /// How many hours the system has.
+    pub fn count(&self) -> u32
+        ensures count { result ≡ hour_count self.now.system }
+        ensures valid { IsValid self.now.system }
+    {
+        self.system.hours()
+    }
+
+    /// Goes through the first hour of a sample.
+    pub fn start(&mut self, sample: u32)
+        ensures hour { IsHour self.new.system (up_in self.new) (start_energies self.new.system) 0 self.new.outcome }
+        ensures least { let n = network_of self.new.system (up_in self.new) (start_energies self.new.system) 0 in
+            IsLeastUnserved n (all_unserved n self.new.outcome) }
+        ensures at { self.new ≡ record self.old {
+          sample = sample;
+          hour = 0;
+          energies = self.new.outcome.energy;
+          outcome = self.new.outcome;
+        } }
+    {
+        self.chronology.start(sample);
+        self.storages.reset();
+        self.work_out();
+    }
+
+    /// Goes through the next hour of the sample.
+    pub fn next(&mut self)
+        requires { self.old.hour + 1 < hour_count self.old.system }
+        ensures hour { IsHour self.new.system (up_in self.new) (carried_energies self.old.system self.old.energies)
+            self.new.hour self.new.outcome }
+        ensures least { let n = network_of self.new.system (up_in self.new)
+            (carried_energies self.old.system self.old.energies) self.new.hour in
+            IsLeastUnserved n (all_unserved n self.new.outcome) }
+        ensures at { self.new ≡ record self.old {
+          hour = self.old.hour + 1;
+          energies = self.new.outcome.energy;
+          outcome = self.new.outcome;
+        } }
+    {
+        self.chronology.step();
+        self.storages.carry();
+        self.work_out();
+    }
+
+    /// Dispatches the hour where the chronology stands, from what the storages hold before it.
+    fn work_out(&mut self)
+        ensures hour { IsHour self.new.system (up_in self.new) self.old.energies self.new.hour self.new.outcome }
+        ensures least { let n = network_of self.new.system (up_in self.new) self.old.energies self.new.hour in
+            IsLeastUnserved n (all_unserved n self.new.outcome) }
+        ensures at { self.new ≡ record self.old {
+          energies = self.new.outcome.energy;
+          outcome = self.new.outcome;
+        } }
+    {
+        set_hour(
+            &mut self.network,
+            self.system,
+            &self.chronology,
+            &self.storages,
+        );
+        self.outcome.hour = self.chronology.hour();
+        self.dispatcher
+            .best(&self.network, &mut self.outcome, &mut self.chain);
+        apply(
+            &mut self.storages,
+            self.system,
+            &self.outcome.charge,
+            &self.outcome.discharge,
+            &mut self.outcome.energy,
+        );
+    }
+
+    /// The outcome of the hour that was gone through last.
+    pub fn outcome(&self) -> &HourOutcome
+        ensures { result.now ≡ self.now.outcome }
+    {
+        &self.outcome
+    }
+}
+
+/// Charges and discharges each storage, in MW, and writes what it then holds, in kWh.
+fn apply(
+    storages: &mut Storages<'_>,
+    system: &System,
+    charge: &Amounts,
+    discharge: &Amounts,
+    energy: &mut Amounts,
+)
+    requires system { storages.old.system ≡ system.now }
+    requires held { length storages.old.energies ≡ storage_count system.now }
+    requires energies { length energy.old ≡ storage_count system.now }
+    requires charges { length charge.now ≡ storage_count system.now }
+    requires discharges { length discharge.now ≡ storage_count system.now }
+    requires within { (k : ℕ) → k < storage_count system.now
+        → IsWithinCaps storages.old k (slice_index charge.now k) (slice_index discharge.now k) }
+    ensures energies { energy.new ≡ energies_after system.now storages.old.energies charge.now discharge.now }
+    ensures storages { storages.new ≡ record storages.old { energies = energy.new } }
+{
+    for device in 0..system.storages() {
+        let at = device as usize;
+        storages.apply(device, charge.get(at), discharge.get(at));
+        energy.set(at, storages.energy(device));
+    }
 }

@@ -1,0 +1,9 @@
+use Rattle.std.proofs.Common.{ap}
+use Rattle.outage_chronology.specs.Standing.{Standing}
+use Rattle.sample_run.proofs.HoursLemmas.{kept-next}
+use Rattle.sample_run.proofs.hours.Hours.next.Goals as goal
+
+pub invariant_of-self : goal.invariant_of-self
+invariant_of-self c =
+    kept-next c.self.inside.system.now c.self.inside.chronology c.step.new.self c.self.inside.storages c.carry.new.self c.self.inside.network
+    c.self.inside.dispatcher c.self.inside.outcome c.self.inside.chain (ap (λ (s : Standing). s.system) c.step.ensures) c.carry.ensures c.self.invariant
