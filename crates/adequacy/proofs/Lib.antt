@@ -5,4 +5,3 @@ pub mod StoredLemmas
 pub mod StudyLemmas
 pub mod TextLemmas
 pub mod TopLemmas
-pub mod WordsWorked

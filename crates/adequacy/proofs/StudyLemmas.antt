@@ -1,18 +1,21 @@
 -- The totals of a study that has come as far as some sample.
-use Rattle.std.proofs.Common.{◌≡◌, ℕ, zero, suc, ◌+◌, ◌*◌, ◌/◌, ◌%◌, ◌<◌, ◌≤◌, List, [], ◌∷◌, ◌++◌, length, take, Option, refl, sym, ap, ◌∙◌, subst, arith, inl, inr, ◌⊎◌, ⊎_elim}
+use Rattle.std.proofs.Common.{◌≡◌, ℕ, zero, suc, ◌+◌, ◌*◌, ◌/◌, ◌%◌, ◌<◌, ◌≤◌, List, [], ◌∷◌, ◌++◌, length, take, Option, Bool, true, false, refl, sym, ap, ◌∙◌, subst, arith, inl, inr, ◌⊎◌, ⊎_elim}
 use Rattle.std.specs.Prelude.{slice_index_or}
-use Rattle.std.proofs.Math.Nat.{cases_lt, mod-add-div, mul-mod_right}
+use Rattle.std.proofs.Math.Nat.{mod-add-div, mul-mod_right}
+use Rattle.std.proofs.lemmas.Bool.{cases_lt}
+use Rattle.std.proofs.lemmas.Nat.{mul-le}
 use Rattle.std.proofs.Math.ListN.{get_or-append}
 use Rattle.std.proofs.Math.Seq.{get_or-append_seam, take-length}
 use Rattle.std.proofs.lemmas.List.{take-append-le, length-append}
 use Rattle.system_model.specs.System.{SystemParts, zone_count}
 use Rattle.sample_totals.specs.declared.outcomes.HourOutcome.{HourOutcome}
-use Rattle.sample_totals.specs.Estimates.{IsEnough}
+use Rattle.sample_totals.specs.Estimates.{is_enough}
 use Rattle.sample_totals.specs.Totals.{Sheet, totals_of}
 use Rattle.sample_totals.proofs.Laws.{law_samples, law_zones}
-use Rattle.sample_run.specs.Run.{Simulation, IsOnlyRun, IsLeast}
+use Rattle.sample_totals.specs.Results.{Figures, figures_of}
+use Rattle.sample_run.specs.Run.{Simulation, IsRun, IsOnlyRun, IsLeast, HasFigures}
 use Rattle.adequacy.specs.Rounds.{IsEnoughRound, IsStudyEnd}
-use Rattle.adequacy.specs.StudyText.{AreEnough, AreRuns, HasStudied}
+use Rattle.adequacy.specs.StudyText.{are_enough, AreRuns, HasStudied}
 use Rattle.adequacy.specs.declared.words.request.StudyTerms.{StudyTerms}
 
 -- so many samples were added, each by its one run; no round that ended below `checked` was enough; and the runner is
@@ -28,8 +31,7 @@ pub record IsUnderWay (system : SystemParts) (terms : StudyTerms) (samples check
       (rounds : ℕ)
       → 0 < rounds
       → terms.samples * rounds < checked
-      → AreEnough (zone_count system) terms.precision runs (terms.samples * rounds)
-      → ⊥
+      → are_enough (zone_count system) terms.precision runs (terms.samples * rounds) ≡ false
 
 -- no run yet
 no_runs : (system : SystemParts) (seed : ℕ) → AreRuns system seed []
@@ -62,9 +64,11 @@ IsUnderWay-start system terms simulation sheet is none some = record {
   size = refl;
   are = no_runs system terms.seed;
   added = none;
-  goes_on = λ rounds more below enough.
-      absurd (omega (arith, below, mul-le 1 terms.samples 1 rounds some more));
+  goes_on = λ rounds more below. absurd (omega (arith, below, mul-le 1 1 terms.samples rounds some more));
 }
+
+pub IsUnderWay-system : (system : SystemParts) (terms : StudyTerms) (samples checked : ℕ) (simulation : Simulation) (sheet : Sheet) → IsUnderWay system terms samples checked simulation sheet → simulation.system ≡ system
+IsUnderWay-system system terms samples checked simulation sheet way = way.same_system
 
 -- as many zones as the system has, and as many samples as were added
 pub IsUnderWay-zones : (system : SystemParts) (terms : StudyTerms) (samples checked : ℕ) (simulation : Simulation) (sheet : Sheet) → IsUnderWay system terms samples checked simulation sheet → length sheet.zones ≡ zone_count system
@@ -90,57 +94,73 @@ IsUnderWay-more system terms samples simulation simulation' sheet sheet' run way
       size = omega (arith, length-append way.runs (run ∷ []), way.size);
       are = more_runs system terms.seed way.runs run way.are (rw (way.size) only) (rw (way.size) least);
       added = adds way.runs way.added;
-      goes_on = λ rounds some below enough.
+      goes_on = λ rounds some below.
           let inside : terms.samples * rounds ≤ length way.runs = omega (arith, below, way.size) in
-          way.goes_on rounds some below
-          (subst (λ (rs : List (List HourOutcome)). IsEnough (totals_of zones rs).unserved (terms.samples * rounds) terms.precision)
-          (take-append-le (terms.samples * rounds) way.runs (run ∷ []) inside) enough);
+          ap (λ (rs : List (List HourOutcome)). is_enough (totals_of zones rs).unserved (terms.samples * rounds) terms.precision)
+          (take-append-le (terms.samples * rounds) way.runs (run ∷ []) inside)
+          ∙ way.goes_on rounds some below;
     }
 
--- the totals hold what is asked of the first so many runs, where these are all
-all_runs : (zones : ℕ) (precision : Option ℕ) (runs : List (List HourOutcome)) (sheet : Sheet) (count : ℕ) → sheet ≡ totals_of zones runs → length runs ≡ count → AreEnough zones precision runs count → IsEnough sheet.unserved sheet.samples precision
-all_runs zones precision runs sheet count is size enough =
-    let all : take count runs ≡ runs = ap (λ n. take n runs) (sym size) ∙ take-length runs in
-    let same : sheet.samples ≡ count = ap (λ (s : Sheet). s.samples) is ∙ law_samples zones runs ∙ size in
-    rw (same, is) (subst (λ (rs : List (List HourOutcome)). IsEnough (totals_of zones rs).unserved count precision) all enough)
+-- the same from what the runner and the totals say
+pub IsUnderWay-ran : (system : SystemParts) (terms : StudyTerms) (samples : ℕ) (simulation simulation' : Simulation) (sheet sheet' : Sheet) (figures : Figures)
+    → IsUnderWay system terms samples (samples + 1) simulation sheet → simulation' ≡ simulation
+    → HasFigures simulation.system simulation.seed samples figures
+    → ((run : List HourOutcome) → IsRun simulation.system simulation.seed samples run → IsLeast simulation.system simulation.seed samples run)
+    → ((runs : List (List HourOutcome)) (run : List HourOutcome) → sheet ≡ totals_of (length sheet.zones) runs → figures ≡ figures_of (length sheet.zones) run → sheet' ≡ totals_of (length sheet.zones) (runs ++ run ∷ []))
+    → IsUnderWay system terms (samples + 1) (samples + 1) simulation' sheet'
+IsUnderWay-ran system terms samples simulation simulation' sheet sheet' figures way same has least adds =
+    let zones : length sheet.zones ≡ zone_count system = IsUnderWay-zones system terms samples (samples + 1) simulation sheet way in
+    let here : HasFigures system terms.seed samples figures = subst (λ (s : SystemParts). HasFigures s terms.seed samples figures) way.same_system (subst (λ (k : ℕ). HasFigures simulation.system k samples figures) way.same_seed has) in
+    let hours : (run : List HourOutcome) → IsRun system terms.seed samples run → IsLeast system terms.seed samples run =
+        subst (λ (s : SystemParts). (run : List HourOutcome) → IsRun s terms.seed samples run → IsLeast s terms.seed samples run) way.same_system
+        (subst (λ (k : ℕ). (run : List HourOutcome) → IsRun simulation.system k samples run → IsLeast simulation.system k samples run) way.same_seed least) in
+    let grows : (runs : List (List HourOutcome)) (run : List HourOutcome) → sheet ≡ totals_of (zone_count system) runs → figures ≡ figures_of (zone_count system) run → sheet' ≡ totals_of (zone_count system) (runs ++ run ∷ []) =
+        subst (λ (z : ℕ). (runs : List (List HourOutcome)) (run : List HourOutcome) → sheet ≡ totals_of z runs → figures ≡ figures_of z run → sheet' ≡ totals_of z (runs ++ run ∷ [])) zones adds in
+    IsUnderWay-more system terms samples simulation simulation' sheet sheet' here.0 way same here.1 (hours here.0 here.1.is_run)
+    (λ runs is. grows runs here.0 is here.2)
 
-some_runs : (zones : ℕ) (precision : Option ℕ) (runs : List (List HourOutcome)) (sheet : Sheet) (count : ℕ) → sheet ≡ totals_of zones runs → length runs ≡ count → IsEnough sheet.unserved sheet.samples precision → AreEnough zones precision runs count
-some_runs zones precision runs sheet count is size enough =
+-- the totals tell whether all these runs are enough
+all_runs : (zones : ℕ) (precision : Option ℕ) (runs : List (List HourOutcome)) (sheet : Sheet) (count : ℕ) → sheet ≡ totals_of zones runs → length runs ≡ count → are_enough zones precision runs count ≡ is_enough sheet.unserved sheet.samples precision
+all_runs zones precision runs sheet count is size =
     let all : take count runs ≡ runs = ap (λ n. take n runs) (sym size) ∙ take-length runs in
-    let same : sheet.samples ≡ count = ap (λ (s : Sheet). s.samples) is ∙ law_samples zones runs ∙ size in
-    let there : IsEnough (totals_of zones runs).unserved count precision = rw (← same, ← is) enough in
-    subst (λ (rs : List (List HourOutcome)). IsEnough (totals_of zones rs).unserved count precision) (sym all) there
+    let same : count ≡ sheet.samples = sym (ap (λ (s : Sheet). s.samples) is ∙ law_samples zones runs ∙ size) in
+    ap (λ (rs : List (List HourOutcome)). is_enough (totals_of zones rs).unserved count precision) all
+    ∙ (ap (λ (s : Sheet). is_enough s.unserved count precision) (sym is)
+    ∙ ap (λ n. is_enough sheet.unserved n precision) same)
+
+multiple : (d q n : ℕ) → d * q ≡ n → n % d ≡ 0
+multiple d q n is = ap (λ k. k % d) (sym is) ∙ mul-mod_right d q
+
+positive : (d q n : ℕ) → 0 < n → d * q ≡ n → 0 < q
+positive d zero n some is = absurd (omega (arith, some, is))
+positive d (suc q) n some is = omega arith
 
 -- no round ends here, or the samples aren't enough there
 pub IsUnderWay-passed : (system : SystemParts) (terms : StudyTerms) (samples : ℕ) (simulation : Simulation) (sheet : Sheet)
     → IsUnderWay system terms samples samples simulation sheet
-    → ((samples % terms.samples ≡ 0) → IsEnough sheet.unserved sheet.samples terms.precision → ⊥)
-    → 0 < terms.samples
+    → ((samples % terms.samples ≡ 0) → is_enough sheet.unserved sheet.samples terms.precision ≡ false)
     → IsUnderWay system terms samples (samples + 1) simulation sheet
-IsUnderWay-passed system terms samples simulation sheet way not some = record {
+IsUnderWay-passed system terms samples simulation sheet way not = record {
   same_system = way.same_system;
   same_seed = way.same_seed;
   runs = way.runs;
   size = way.size;
   are = way.are;
   added = way.added;
-  goes_on = λ rounds more below enough. ⊎_elim
-      (λ (h : terms.samples * rounds < samples). way.goes_on rounds more h enough)
+  goes_on = λ rounds more below. ⊎_elim
+      (λ (h : terms.samples * rounds < samples). way.goes_on rounds more h)
       (λ (h : samples ≤ terms.samples * rounds).
           let here : terms.samples * rounds ≡ samples = omega (arith, h, below) in
-          not (multiple terms.samples rounds samples some here)
-          (all_runs (zone_count system) terms.precision way.runs sheet samples way.added way.size
-          (subst (λ (n : ℕ). AreEnough (zone_count system) terms.precision way.runs n) here enough)))
+          ap (are_enough (zone_count system) terms.precision way.runs) here
+          ∙ (all_runs (zone_count system) terms.precision way.runs sheet samples way.added way.size
+          ∙ not (multiple terms.samples rounds samples here)))
       (cases_lt (terms.samples * rounds) samples);
 }
-where
-  multiple : (d q n : ℕ) → 0 < d → d * q ≡ n → n % d ≡ 0
-  multiple d q n some is = ap (λ k. k % d) (sym is) ∙ mul-mod_right d q
 
 -- a round ends here, and the samples are enough
 pub HasStudied-enough : (system : SystemParts) (terms : StudyTerms) (samples : ℕ) (simulation : Simulation) (sheet : Sheet)
     → IsUnderWay system terms samples samples simulation sheet → 0 < samples → samples ≤ terms.most
-    → samples % terms.samples ≡ 0 → IsEnough sheet.unserved sheet.samples terms.precision
+    → samples % terms.samples ≡ 0 → is_enough sheet.unserved sheet.samples terms.precision ≡ true
     → HasStudied system terms sheet
 HasStudied-enough system terms samples simulation sheet way some few whole enough =
     let zones = zone_count system in
@@ -154,18 +174,15 @@ HasStudied-enough system terms samples simulation sheet way some few whole enoug
               rounds = samples / terms.samples;
               some = positive terms.samples (samples / terms.samples) samples some parts;
               is = way.size ∙ sym parts;
-              enough = rw (way.size) (some_runs zones terms.precision way.runs sheet samples way.added way.size enough);
+              passes = ap (are_enough zones terms.precision way.runs) way.size
+                  ∙ (all_runs zones terms.precision way.runs sheet samples way.added way.size ∙ enough);
             }))
             (λ (h : terms.most ≤ samples). inl (omega (arith, way.size, h, few)))
             (cases_lt samples terms.most);
         goes_on = λ rounds more below. way.goes_on rounds more (omega (arith, below, way.size));
       };
-      sheet = way.added;
+      is = way.added;
     }
-where
-  positive : (d q n : ℕ) → 0 < n → d * q ≡ n → 0 < q
-  positive d zero n some is = absurd (omega (arith, some, is))
-  positive d (suc q) n some is = omega arith
 
 -- the most were simulated
 pub HasStudied-most : (system : SystemParts) (terms : StudyTerms) (simulation : Simulation) (sheet : Sheet)
@@ -177,5 +194,5 @@ HasStudied-most system terms simulation sheet way = record {
     stops = inl way.size;
     goes_on = λ rounds more below. way.goes_on rounds more (omega (arith, below, way.size));
   };
-  sheet = way.added;
+  is = way.added;
 }

@@ -16,3 +16,4 @@ pub mod StudyText
 pub mod TotalsText
 pub mod WordFaultText
 pub mod Words
+pub mod WorkedWords

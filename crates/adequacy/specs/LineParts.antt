@@ -1,5 +1,5 @@
 -- The line that words spell.
-use Rattle.std.specs.Prelude.{◌≡◌, ◌<◌, ℕ, Bool, true, false, ◌==◌, nat_le, nat_lt, List, Option, None, Some, is_some}
+use Rattle.std.specs.Prelude.{◌≡◌, ℕ, Bool, true, false, ◌==◌, nat_le, nat_lt, List, Option, Some, is_some}
 use Rattle.capacity_credit.specs.declared.questions.Kind.{Kind}
 use Rattle.capacity_credit.specs.declared.questions.Measure.{Measure}
 use Rattle.adequacy.specs.CommandWords.{is_credit}

@@ -1,5 +1,5 @@
 -- What a line asks for, by its command. The options that the command needs are there in every line.
-use Rattle.std.specs.Prelude.{◌≡◌, ◌≤◌, ℕ, Option, None, Some, unwrap_or, IfSome}
+use Rattle.std.specs.Prelude.{◌≡◌, ◌≤◌, Some, unwrap_or, IfSome}
 use Rattle.ra_base.specs.declared.limits.TheConstants.{MOST_BLOCK, MOST_POOLED_MW, MOST_SAMPLES, MOST_WORKERS}
 use Rattle.analytic_index.specs.Pool.{IsNewUnit}
 use Rattle.capacity_credit.specs.declared.questions.Kind.TheVariants.{Efc}
@@ -111,13 +111,13 @@ pub record AreCreditTerms (line : LineParts) (terms : CreditTerms) : Type 0 wher
   pub unit_range : IsNewUnit terms.unit
   pub most_range : terms.most ≤ MOST_POOLED_MW
 
--- a request's terms are those of a line
-abbrev pub AreRequested : LineParts → Request → Type 0
-AreRequested line Check = Unit {0}
-AreRequested line Table = Unit {0}
-AreRequested line Index = Unit {0}
-AreRequested line (Credit terms) = AreCreditTerms line terms
-AreRequested line (Trace terms) = AreTraceTerms line terms
-AreRequested line (Study terms) = AreStudyTerms line terms
-AreRequested line (Trial number terms) = (number ≡ line.number) × (number ≤ MOST_SEED) × AreStudyTerms line terms
-AreRequested line (Console terms) = AreConsoleTerms line terms
+-- a request has the values of the line's options
+abbrev pub IsRequestOf : LineParts → Request → Type 0
+IsRequestOf line Check = Unit {0}
+IsRequestOf line Table = Unit {0}
+IsRequestOf line Index = Unit {0}
+IsRequestOf line (Credit terms) = AreCreditTerms line terms
+IsRequestOf line (Trace terms) = AreTraceTerms line terms
+IsRequestOf line (Study terms) = AreStudyTerms line terms
+IsRequestOf line (Trial number terms) = (number ≡ line.number) × (number ≤ MOST_SEED) × AreStudyTerms line terms
+IsRequestOf line (Console terms) = AreConsoleTerms line terms

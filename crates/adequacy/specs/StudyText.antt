@@ -1,17 +1,17 @@
 -- What a study writes: the totals over the runs of its samples.
-use Rattle.std.specs.Prelude.{◌≡◌, ℕ, ◌<◌, List, [], length, take, slice_index_or, Option}
+use Rattle.std.specs.Prelude.{◌≡◌, ℕ, ◌<◌, List, [], length, take, slice_index_or, Option, Bool}
 use Rattle.system_model.specs.System.{SystemParts, zone_count}
 use Rattle.sample_totals.specs.declared.outcomes.HourOutcome.{HourOutcome}
-use Rattle.sample_totals.specs.Estimates.{IsEnough}
+use Rattle.sample_totals.specs.Estimates.{is_enough}
 use Rattle.sample_totals.specs.Totals.{Sheet, totals_of}
 use Rattle.sample_run.specs.Run.{IsOnlyRun, IsLeast}
 use Rattle.adequacy.specs.Rounds.{IsStudyEnd}
 use Rattle.adequacy.specs.TotalsText.{totals_text}
 use Rattle.adequacy.specs.declared.words.request.StudyTerms.{StudyTerms}
 
--- the first so many of these runs are enough for a precision, by their unserved energy
-abbrev pub AreEnough : ℕ → Option ℕ → List (List HourOutcome) → ℕ → Type 0
-AreEnough zones precision runs count = IsEnough (totals_of zones (take count runs)).unserved count precision
+-- whether the first so many of these runs are enough for a precision, by their unserved energy
+abbrev pub are_enough : ℕ → Option ℕ → List (List HourOutcome) → ℕ → Bool
+are_enough zones precision runs count = is_enough (totals_of zones (take count runs)).unserved count precision
 
 -- these are the runs of the samples 0, 1, .. in their order: each sample has just this run, and in each hour of it no
 -- feasible dispatch leaves less load unserved
@@ -24,11 +24,11 @@ pub record HasStudied (system : SystemParts) (terms : StudyTerms) (sheet : Sheet
   pub runs : List (List HourOutcome)
   pub are : AreRuns system terms.seed runs
   pub end :
-      IsStudyEnd terms.samples terms.most (AreEnough (zone_count system) terms.precision runs) (length runs)
-  pub sheet : sheet ≡ totals_of (zone_count system) runs
+      IsStudyEnd terms.samples terms.most (are_enough (zone_count system) terms.precision runs) (length runs)
+  pub is : sheet ≡ totals_of (zone_count system) runs
 
 -- the bytes are the text of these totals
 pub record IsStudyText (system : SystemParts) (terms : StudyTerms) (text : List ℕ) : Type 0 where
   pub sheet : Sheet
   pub studied : HasStudied system terms sheet
-  pub text : text ≡ totals_text system.zone_names sheet
+  pub is : text ≡ totals_text system.zone_names sheet

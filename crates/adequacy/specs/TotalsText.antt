@@ -3,10 +3,10 @@ use Rattle.std.specs.Prelude.{ℕ, ◌/◌, ◌%◌, ◌^◌, ◌==◌, ◌||◌
 use Rattle.std.specs.List.{range_with_len, flat_map, join_by}
 use Rattle.zone_network.specs.Sums.{inside}
 use Rattle.decimal_text.specs.DecimalText.{whole_text, fixed_text}
-use Rattle.sample_run.specs.declared.cut_rows.CutRow.{CutRow}
-use Rattle.sample_run.specs.declared.estimates.Sums.{Sums}
-use Rattle.sample_run.specs.Estimates.{mean_of, error_of}
-use Rattle.sample_run.specs.Totals.{Sheet, zone_sums}
+use Rattle.sample_totals.specs.declared.cut_rows.CutRow.{CutRow}
+use Rattle.sample_totals.specs.declared.estimates.Sums.{Sums}
+use Rattle.sample_totals.specs.Estimates.{mean_of, error_of}
+use Rattle.sample_totals.specs.Totals.{Sheet, zone_sums}
 
 -- a byte of a name as it is written: `?` in place of a control byte
 abbrev pub shown_byte : ℕ → ℕ

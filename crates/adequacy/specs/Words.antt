@@ -1,5 +1,5 @@
 -- The line that words spell, or their first fault.
-use Rattle.std.specs.Prelude.{◌≡◌, ℕ, Bool, true, List, [], codes, fold, Option, None, Some, Result, Ok, Err, if◌then◌else◌, unwrap_or}
+use Rattle.std.specs.Prelude.{◌≡◌, ℕ, true, List, [], codes, fold, Some, Result, Ok, Err, if◌then◌else◌, unwrap_or}
 use Rattle.decimal_text.specs.Reading.{whole_of}
 use Rattle.clap.specs.Walk.{is_empty}
 use Rattle.clap.specs.Words.{App, Row, Rule, fault_of, first_of, matches_of, new_app, new_rule, with_rule}

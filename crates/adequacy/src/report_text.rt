@@ -5,14 +5,14 @@ ghost use Rattle.ra_base.specs.declared.limits.TheConstants.{MOST_SAMPLES};
 ghost use Rattle.decimal_text.specs.DecimalText.{whole_text};
 ghost use Rattle.system_model.specs.System.{zone_count};
 ghost use Rattle.system_model.specs.System.{pooled_capacity};
-ghost use Rattle.sample_run.specs.Estimates.{AreSums};
+ghost use Rattle.sample_totals.specs.Estimates.{AreSums};
 ghost use Rattle.adequacy.specs.CheckText.{network_text, further_text, peak_text, check_line};
 ghost use Rattle.adequacy.specs.FaultText.{table_text, number_fault_text, cause_text, fixed_column_text, column_text, fault_line};
 ghost use Rattle.adequacy.specs.TotalsText.{name_text, shown_byte, error_text, sums_text, zone_line, zones_in, zones_text, cut_line, sum_lines, totals_text};
 
 use decimal_text::{NumberFault, put_fixed, put_whole};
 use ra_base::{OutOfMemory, TableName, Text};
-use sample_run::{CutRow, Part, Sums, Totals, error, mean};
+use sample_totals::{CutRow, Part, Sums, Totals, error, mean};
 use system_model::System;
 use system_tables::{Cause, Column, TableFault};
 use zone_network::has_zone;

@@ -1,7 +1,7 @@
 //! The answer to a study: its samples are simulated in order, and the text of their totals is written.
-ghost use Rattle.std.specs.Prelude.{◌≤◌, ◌<◌, ◌↔◌, IfOk, IfSome, IsTrue};
+ghost use Rattle.std.specs.Prelude.{◌≡◌, ◌≤◌, ◌<◌, IfOk, IfSome};
 ghost use Rattle.ra_base.specs.declared.limits.TheConstants.{MOST_SAMPLES};
-ghost use Rattle.sample_totals.specs.Estimates.{IsEnough, IsPrecision};
+ghost use Rattle.sample_totals.specs.Estimates.{is_enough as enough_samples, IsPrecision};
 ghost use Rattle.adequacy.specs.StudyText.{IsStudyText, HasStudied};
 
 use crate::report_text::put_totals;
@@ -57,7 +57,7 @@ fn study_totals(
 fn is_enough(totals: &Totals, precision: Option<u16>) -> bool
     requires some { 0 < totals.now.samples }
     requires precision { IfSome precision IsPrecision }
-    ensures { IsTrue result ↔ IsEnough totals.now.unserved totals.now.samples precision }
+    ensures { result ≡ enough_samples totals.now.unserved totals.now.samples precision }
 {
     enough(totals.part(Part::Unserved), totals.samples(), precision)
 }

@@ -1,6 +1,6 @@
 //! The table of options: which commands take an option, how its value is read, the value's bounds, and what
 //! stands where it is absent.
-ghost use Rattle.std.specs.Prelude.{◌≡◌, ◌≤◌, IfSome};
+ghost use Rattle.std.specs.Prelude.{◌≡◌};
 ghost use Rattle.adequacy.specs.OptionTable.{most_row, repair_row, takes};
 
 use super::Command;
@@ -10,7 +10,7 @@ use ra_base::limits::{BILLION, MOST_BLOCK, MOST_POOLED_MW, MOST_SAMPLES, MOST_WO
 pub const MOST_SEED: u64 = 1_000_000_000_000_000_000;
 
 /// The number of the last sample that there can be.
-pub const LAST_SAMPLE: u32 = 999_999;
+pub const LAST_SAMPLE: u32 = MOST_SAMPLES - 1;
 
 /// The greatest precision, in thousandths of the mean.
 pub const MOST_PRECISION: u16 = 1_000;

@@ -1,5 +1,5 @@
 //! The words read into a line.
-ghost use Rattle.std.specs.Prelude.{◌≡◌, ◌↔◌, IsTrue, IfOk, Ok, Err, map, codes, true};
+ghost use Rattle.std.specs.Prelude.{◌≡◌, IfOk, map, codes, true};
 ghost use Rattle.std.specs.String.{string_bytes};
 ghost use Rattle.clap.specs.Words.{found_of, rows_of};
 ghost use Rattle.adequacy.specs.LineParts.{fits_number, is_below};

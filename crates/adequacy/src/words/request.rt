@@ -1,7 +1,8 @@
 //! What a line asks for, by its command, with the values of the command's options.
 ghost use Rattle.std.specs.Prelude.{◌≡◌, true};
 ghost use Rattle.adequacy.specs.CommandWords.{is_campaign, is_credit, is_study, is_trace};
-ghost use Rattle.adequacy.specs.Requests.{AreConsoleTerms, AreCreditTerms, AreRequested, AreStudyTerms, AreTraceTerms, console_terms, credit_terms, request_of, study_terms, trace_terms};
+ghost use Rattle.adequacy.specs.Requests.{AreConsoleTerms, AreCreditTerms, AreStudyTerms, AreTraceTerms, IsRequestOf};
+ghost use Rattle.adequacy.specs.Requests.{console_terms, credit_terms, request_of, study_terms, trace_terms};
 
 use super::{Command, Line};
 use analytic_index::NewUnit;
@@ -88,7 +89,7 @@ impl Line {
     pub fn request(&self) -> Request
         ensures request { result ≡ request_of self.now }
         // Its terms are the values of the line's options, in their ranges.
-        ensures terms { AreRequested self.now result }
+        ensures terms { IsRequestOf self.now result }
     {
         match self.command {
             Command::Check => Request::Check,

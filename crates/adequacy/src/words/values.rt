@@ -1,11 +1,12 @@
 //! The values of the options, for a command.
-ghost use Rattle.std.specs.Prelude.{◌≡◌, ◌≤◌, ◌<◌, ◌^◌, IfOk, IfSome, None, true, is_some, map, codes};
+ghost use Rattle.std.specs.Prelude.{◌≡◌, ◌<◌, ◌^◌, IfOk, IfSome, true, is_some, codes};
 ghost use Rattle.std.specs.Option.{option_map};
 ghost use Rattle.clap.specs.Words.{first_of, found_of, rows_of};
 ghost use Rattle.adequacy.specs.CommandWords.{is_credit};
 ghost use Rattle.adequacy.specs.OptionTable.{fits, has_fit_default, is_within};
 ghost use Rattle.adequacy.specs.OptionFacts.{AreCreditOptions, AreRunOptions, AreTraceOptions};
-ghost use Rattle.adequacy.specs.OptionWords.{kind_for, kind_named, measure_for, measure_named, number_by, number_for, number_in, recorder_named, run_options_in, trace_options_in, credit_options_in, where_absent};
+ghost use Rattle.adequacy.specs.OptionWords.{kind_named, measure_named, number_by, number_in, recorder_named, where_absent};
+ghost use Rattle.adequacy.specs.OptionWords.{credit_options_in, kind_for, measure_for, number_for, run_options_in, trace_options_in};
 
 use super::options::{
     Absent, BLOCK, CAPACITY, FAILURE, KIND, MEASURE, OptionRow, PRECISION, RESULT, Reading, SAMPLE,
@@ -203,7 +204,8 @@ fn number_u8(
 
 #[tactic(auto, unfolding(crate::specs::OptionWords::kind_for))]
 fn kind_for(matches: &ArgMatches<'_>, command: Command) -> Result<Option<Kind>, WordFault>
-    ensures value { result ≡ kind_for command (first_of (codes "kind") (rows_of (found_of matches.now))) }
+    ensures value { result
+        ≡ kind_for command (first_of (codes "kind") (rows_of (found_of matches.now))) }
     ensures fits { IfOk result (λ kind. is_some kind ≡ is_credit command) }
 {
     let takes = Takers::Credit.include(command);
@@ -223,7 +225,8 @@ fn kind_for(matches: &ArgMatches<'_>, command: Command) -> Result<Option<Kind>, 
 
 #[tactic(auto, unfolding(crate::specs::OptionWords::measure_for))]
 fn measure_for(matches: &ArgMatches<'_>, command: Command) -> Result<Option<Measure>, WordFault>
-    ensures value { result ≡ measure_for command (first_of (codes "measure") (rows_of (found_of matches.now))) }
+    ensures value { result
+        ≡ measure_for command (first_of (codes "measure") (rows_of (found_of matches.now))) }
     ensures fits { IfOk result (λ measure. is_some measure ≡ is_credit command) }
 {
     let takes = Takers::Credit.include(command);
