@@ -5,6 +5,7 @@
 mod entries;
 mod error;
 mod fleet;
+mod high;
 mod limits;
 mod table;
 mod units;
