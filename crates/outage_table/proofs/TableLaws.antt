@@ -4,6 +4,7 @@ use Rattle.std.proofs.lemmas.Bool.{cases_lt}
 use Rattle.std.proofs.lemmas.List.{take_all, drop_all, append-nil}
 use Rattle.std.proofs.lemmas.List.Sums.{fold_push}
 use Rattle.std.proofs.lemmas.List.Elements.{All-nil, All-push}
+use Rattle.ra_base.specs.declared.limits.TheConstants.{MOST_TABLE_MW}
 use Rattle.fixed_interval.specs.declared.enclosure.Enclosure.{Enclosure}
 use Rattle.fixed_interval.specs.Enclosure.{one}
 use Rattle.fixed_interval.specs.Rounding.{floor_div, ceil_div}
@@ -67,7 +68,7 @@ filled_part entries longer n units table filled x d h =
 
 -- one more unit
 pub table-push : (entries longer mixed : List Enclosure) (units : List PooledUnit) (u : PooledUnit) → IsTable entries units
-    → AreRates u.rates → total_capacity units + u.capacity ≤ 400000 → length units + 1 < 2 ^ 32
+    → AreRates u.rates → total_capacity units + u.capacity ≤ MOST_TABLE_MW → length units + 1 < 2 ^ 32
     → IsFilledUp entries longer (total_capacity units + u.capacity + 1) → length mixed ≡ length longer → AreMixed longer mixed u.capacity (out_weight u.rates) (up_weight u.rates)
     → IsTable mixed (units ++ u ∷ [])
 table-push entries longer mixed units u table rated small countable filled long done = record {
@@ -107,7 +108,7 @@ given_back slice items n long short =
 -- the table after a unit was pushed and the entries were filled up, lent, mixed and given back
 pub table_added : (entries longer lent mixed : List Enclosure) (units more : List PooledUnit) (u : PooledUnit) (n count out up : ℕ)
     → IsTable entries units → AreRates u.rates → n ≡ total_capacity units + u.capacity + 1
-    → total_capacity units + u.capacity ≤ 400000 → length units + 1 < 2 ^ 32 → IsFilledUp entries longer n
+    → total_capacity units + u.capacity ≤ MOST_TABLE_MW → length units + 1 < 2 ^ 32 → IsFilledUp entries longer n
     → lent ≡ longer → length mixed ≡ length lent → AreMixed lent mixed u.capacity out up
     → out ≡ out_weight u.rates → up ≡ up_weight u.rates → count ≡ length longer → more ≡ units ++ u ∷ []
     → IsTable (take count (mixed ++ drop (length mixed) longer)) more

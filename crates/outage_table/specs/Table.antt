@@ -1,4 +1,5 @@
 use Rattle.std.specs.Prelude.{◌≡◌, ℕ, ◌+◌, ◌-◌, ◌*◌, ◌<◌, ◌≤◌, ◌^◌, List, length, slice_index_or, All}
+use Rattle.ra_base.specs.declared.limits.TheConstants.{MOST_TABLE_MW}
 use Rattle.fixed_interval.specs.declared.enclosure.Enclosure.{Enclosure}
 use Rattle.fixed_interval.specs.Rounding.{floor_div, ceil_div}
 use Rattle.system_model.specs.Rates.{AreRates}
@@ -30,6 +31,6 @@ pub record AreMixed (entries mixed : List Enclosure) (capacity out up : ℕ) : T
 -- what a table keeps
 pub record IsTable (entries : List Enclosure) (units : List PooledUnit) : Type 0 where
   pub written : AreEntries entries units
-  pub small : total_capacity units ≤ 400000
+  pub small : total_capacity units ≤ MOST_TABLE_MW
   pub countable : length units < 2 ^ 32
   pub rated : All (λ unit. AreRates unit.rates) units

@@ -11,7 +11,6 @@ mod table;
 mod units;
 
 pub use error::AddError;
-pub use limits::LARGEST_TOTAL;
 pub use table::OutageTable;
 pub use units::PooledUnit;
 
