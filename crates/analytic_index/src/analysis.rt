@@ -61,6 +61,7 @@ impl Analysis {
         requires { IsExtra extra }
         ensures pool { IfOk result (λ analysis. analysis ≡ pool_of system.now extra) }
         ensures rated { IfOk result (λ analysis. All (λ unit. AreRates unit.rates) analysis.units) }
+        ensures small { extra ≡ None → IfOk result (λ analysis. total_capacity analysis.units ≤ MOST_POOLED_MW) }
     {
         let units = pooled(alloc, system, extra)?;
         let table = OutageTable::of_units(alloc, &units)?;
@@ -83,6 +84,7 @@ impl Analysis {
     ) -> Result<Analysis, OutOfMemory>
         requires pool { self.now ≡ pool_of system.now None }
         requires unit { IsNewUnit unit }
+        requires small { total_capacity self.now.units + unit.capacity ≤ MOST_TABLE_MW }
         ensures pool { IfOk result (λ analysis. analysis ≡ pool_of system.now (Some unit)) }
         ensures rated { IfOk result (λ analysis. All (λ unit. AreRates unit.rates) analysis.units) }
     {
