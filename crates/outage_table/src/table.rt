@@ -11,7 +11,7 @@ use crate::error::AddError;
 use crate::fleet::entries_of;
 use crate::limits::ONE;
 use crate::units::PooledUnit;
-use fixed_interval::{Enclosure, add};
+use fixed_interval::{Enclosure, Share, add};
 use ra_base::OutOfMemory;
 use ra_base::limits::MOST_TABLE_MW;
 use std::alloc::Global;
@@ -102,8 +102,8 @@ impl OutageTable {
         self.units.push(PooledUnit { capacity, rates })?;
         match lengthen(&mut self.entries, total as usize + 1) {
             Ok(()) => {
-                let (out, up) = (u64::from(rates.f), u64::from(rates.r));
-                mix_all(&mut self.entries, capacity as usize, out, up);
+                let share = Share::new(u64::from(rates.f), u64::from(rates.r));
+                mix_all(&mut self.entries, capacity as usize, share);
                 Ok(())
             }
             Err(e) => {
