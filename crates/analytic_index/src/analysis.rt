@@ -203,11 +203,7 @@ impl Analysis {
 }
 
 // The table with one more unit.
-fn table_with(
-    alloc: Global,
-    table: &OutageTable,
-    unit: NewUnit,
-) -> Result<OutageTable, OutOfMemory>
+fn table_with(alloc: Global, table: &OutageTable, unit: NewUnit) -> Result<OutageTable, OutOfMemory>
     requires rated { AreRates unit.rates }
     requires small { total_capacity table.now + unit.capacity ≤ MOST_TABLE_MW }
     ensures { IfOk result (λ with_unit. with_unit ≡ table.now

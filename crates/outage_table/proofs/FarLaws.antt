@@ -1,5 +1,5 @@
 -- Ends that are kept one by one up to a place and by bounds behind it.
-use Rattle.std.proofs.Common.{◌≡◌, ℕ, zero, suc, ◌+◌, ◌-◌, ◌*◌, ◌<◌, ◌≤◌, List, [], ◌∷◌, ◌++◌, length, get_or, take, drop, replicate, min, max, cond, inl, inr, refl, sym, ap, subst, ◌∙◌, arith, length-append}
+use Rattle.std.proofs.Common.{◌≡◌, ℕ, zero, suc, ◌+◌, ◌-◌, ◌*◌, ◌<◌, ◌≤◌, List, [], ◌∷◌, ◌++◌, length, get_or, take, replicate, min, max, inl, inr, refl, sym, ap, subst, ◌∙◌, arith, length-append}
 use Rattle.std.proofs.lemmas.Bool.{cases_lt}
 use Rattle.std.proofs.lemmas.Bool.Decides.{nat_tests}
 use Rattle.std.proofs.lemmas.List.{get_or_past, get_or-take, get_or_append_left, get_or-append_right, get_or-replicate, get_or_push, length-replicate, length-take-le, take_all}
@@ -7,7 +7,7 @@ use Rattle.fixed_interval.specs.Rounding.{ceil_div}
 use Rattle.fixed_interval.proofs.Rounds.{ceil_div-more, ceil_div-none}
 use Rattle.outage_table.proofs.Ends.{mean-le, ceil_div-le}
 use Rattle.outage_table.specs.Fleet.{moved, AreFalling, height, end_of, AreDescending, raised_bound}
-use Rattle.outage_table.proofs.HeightLaws.{all_past, height-le, height-next, height-past, height-falls, height-le-length, height-longer, height-take, height-raised, raised_descending, raised_within}
+use Rattle.outage_table.proofs.HeightLaws.{all_past, height-le, height-next, height-past, height-le-length, height-longer, height-take, height-raised}
 
 pub end_of-near : (near bounds : List ℕ) (x : ℕ) → x < length near → end_of near bounds x ≡ get_or near x 0
 end_of-near near bounds x h = grind (arith, nat_tests)
@@ -20,8 +20,8 @@ pub calm_past : (bs : List ℕ) (c small at x : ℕ) → AreDescending bs → ((
     → get_or bs (at + small) 0 + c ≤ x → height bs (x - c) ≤ height bs x + small
 calm_past bs c small at x d steps far = elim (cases_lt (height bs x) at) [
   | inl below ↦ (let long = steps (height bs x) below in
-    let next = height-next bs x d in
-    height-le bs (height bs x + small) (x - c) d (omega arith))
+      let next = height-next bs x d in
+      height-le bs (height bs x + small) (x - c) d (omega arith))
   | inr above ↦ (let low = height-le bs (at + small) (x - c) d (omega arith) in omega arith)
 ]
 
@@ -86,8 +86,12 @@ longer-descending : (bounds : List ℕ) (k n : ℕ) → AreDescending bounds →
 longer-descending bounds k n d all = record {
   falls = λ i j h. elim (cases_lt j (length bounds)) [
     | inl inside ↦
-        omega (arith, get_or_append_left bounds (replicate {A = ℕ} k n) 0 j inside,
-        get_or_append_left bounds (replicate {A = ℕ} k n) 0 i (let l : i < length bounds = omega arith in l), d.falls i j h)
+        omega (
+          arith,
+          get_or_append_left bounds (replicate {A = ℕ} k n) 0 j inside,
+          get_or_append_left bounds (replicate {A = ℕ} k n) 0 i (let l : i < length bounds = omega arith in l),
+          d.falls i j h,
+        )
     | inr outside ↦ elim (cases_lt j (length bounds + k)) [
       | inl new ↦ omega (arith, longer-at bounds k n j outside new, longer-ge bounds k n i all (let l : i < length bounds + k = omega arith in l))
       | inr past ↦ omega (arith, longer-past bounds k n j past)

@@ -1,13 +1,13 @@
 -- Lists of ends: one more unit, the zeros at the end, and what stands in a table.
 use Rattle.std.proofs.Common.{◌≡◌, ℕ, zero, suc, ◌+◌, ◌-◌, ◌*◌, ◌<◌, ◌≤◌, List, [], ◌∷◌, ◌++◌, length, get_or, take, drop, replicate, inl, inr, refl, sym, ap, subst, max, ◌∙◌, arith}
 use Rattle.std.proofs.lemmas.Bool.{cases_lt}
-use Rattle.std.proofs.lemmas.List.{get_or_past, get_or-take, get_or_append_left, get_or-append_right, get_or-replicate, length-append, length-replicate, length-take-le, take_all, take_more}
+use Rattle.std.proofs.lemmas.List.{get_or_past, get_or-take, take_all, take_more}
 use Rattle.std.proofs.lemmas.List.Elements.{All-take, All-get_or}
 use Rattle.std.proofs.lemmas.List.Sums.{fold_push}
 use Rattle.fixed_interval.specs.declared.enclosure.Enclosure.{Enclosure}
 use Rattle.fixed_interval.specs.Enclosure.{one}
 use Rattle.fixed_interval.specs.Rounding.{floor_div, ceil_div}
-use Rattle.fixed_interval.proofs.Rounds.{floor_div-more, ceil_div-more, floor_div-small, ceil_div-none}
+use Rattle.fixed_interval.proofs.Rounds.{floor_div-more, ceil_div-more, floor_div-small}
 use Rattle.system_model.specs.Rates.{AreRates, out_weight, up_weight}
 use Rattle.outage_table.specs.declared.units.PooledUnit.{PooledUnit}
 use Rattle.outage_table.specs.States.{total_capacity}

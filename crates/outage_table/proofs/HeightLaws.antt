@@ -1,5 +1,5 @@
 -- Bounds that fall, and how many of them lie past a place.
-use Rattle.std.proofs.Common.{◌≡◌, ℕ, zero, suc, ◌+◌, ◌-◌, ◌*◌, ◌<◌, ◌≤◌, List, [], ◌∷◌, ◌++◌, length, get_or, take, replicate, min, cond, inl, inr, refl, sym, ap, ◌∙◌, arith}
+use Rattle.std.proofs.Common.{◌≡◌, ℕ, zero, suc, ◌+◌, ◌-◌, ◌<◌, ◌≤◌, List, [], ◌∷◌, ◌++◌, length, get_or, take, replicate, min, cond, inl, inr, refl, sym, ap, ◌∙◌, arith}
 use Rattle.std.proofs.lemmas.Bool.{cases_lt, cond_below, cond_above}
 use Rattle.std.proofs.Math.Dec.{ltb}
 use Rattle.std.proofs.lemmas.List.{get_or_past}
@@ -131,8 +131,12 @@ later_raised (o ∷ olds) (n ∷ news) before c x d same far past is =
     elim (cases_lt x o) [
       | inl here ↦
           (let rest = later_raised olds news o c x tail (omega arith) far here (λ k l. is (suc k) (omega arith)) in
-          omega (arith, height-yes n news x (let h : x < n = omega arith in h), height-yes o olds x here,
-          height-yes o olds (x - c) (let h : x - c < o = omega arith in h)))
+          omega (
+            arith,
+            height-yes n news x (let h : x < n = omega arith in h),
+            height-yes o olds x here,
+            height-yes o olds (x - c) (let h : x - c < o = omega arith in h),
+          ))
       | inr near ↦
           (let old_none = first_not_past (o ∷ olds) x tail near in
           let new_none : height news x ≡ 0 = none_past news x (λ k. low k near) in

@@ -1,5 +1,5 @@
 -- What the entries that a table keeps are.
-use Rattle.std.proofs.Common.{◌≡◌, ℕ, zero, suc, ◌+◌, ◌-◌, ◌*◌, ◌^◌, ◌<◌, ◌≤◌, List, [], ◌∷◌, ◌++◌, length, get_or, take, drop, sym, ap, subst, refl, inl, inr, ◌∙◌, arith, length-append}
+use Rattle.std.proofs.Common.{◌≡◌, ℕ, zero, suc, ◌+◌, ◌-◌, ◌^◌, ◌<◌, ◌≤◌, List, [], ◌∷◌, ◌++◌, length, get_or, take, drop, sym, ap, subst, refl, inl, inr, ◌∙◌, arith, length-append}
 use Rattle.std.proofs.lemmas.Bool.{cases_lt}
 use Rattle.std.proofs.lemmas.List.{take_all, drop_all, append-nil}
 use Rattle.std.proofs.lemmas.List.Sums.{fold_push}
@@ -92,8 +92,12 @@ table-push entries longer mixed units u out all table rated small countable fill
         let within : x < total_capacity units + u.capacity + 1 = omega (arith, long, filled.count) in
         let before : x - u.capacity < total_capacity units + u.capacity + 1 = omega arith in
         done.low x d (omega (arith, long))
-        ∙ (rw (is_out, is_all, filled_low entries longer (total_capacity units + u.capacity + 1) units table filled x d within,
-        filled_low entries longer (total_capacity units + u.capacity + 1) units table filled (x - u.capacity) d before)
+        ∙ (rw (
+          is_out,
+          is_all,
+          filled_low entries longer (total_capacity units + u.capacity + 1) units table filled x d within,
+          filled_low entries longer (total_capacity units + u.capacity + 1) units table filled (x - u.capacity) d before,
+        )
         (floor_div-more (out_weight u.rates) (up_weight u.rates) (grid floor_div units x) (grid floor_div units (x - u.capacity)) rated.some
         ((grid_ends units table.rated).falls_low (x - u.capacity) x (omega arith))))
         ∙ ap (λ g. g x) (sym (fold_push (with_unit floor_div) no_units units u));
@@ -101,8 +105,12 @@ table-push entries longer mixed units u out all table rated small countable fill
         let within : x < total_capacity units + u.capacity + 1 = omega (arith, long, filled.count) in
         let before : x - u.capacity < total_capacity units + u.capacity + 1 = omega arith in
         done.high x d (omega (arith, long))
-        ∙ (rw (is_out, is_all, filled_high entries longer (total_capacity units + u.capacity + 1) units table filled x d within,
-        filled_high entries longer (total_capacity units + u.capacity + 1) units table filled (x - u.capacity) d before)
+        ∙ (rw (
+          is_out,
+          is_all,
+          filled_high entries longer (total_capacity units + u.capacity + 1) units table filled x d within,
+          filled_high entries longer (total_capacity units + u.capacity + 1) units table filled (x - u.capacity) d before,
+        )
         (ceil_div-more (out_weight u.rates) (up_weight u.rates) (grid ceil_div units x) (grid ceil_div units (x - u.capacity)) rated.some
         ((grid_ends units table.rated).falls_high (x - u.capacity) x (omega arith))))
         ∙ ap (λ g. g x) (sym (fold_push (with_unit ceil_div) no_units units u));

@@ -1,4 +1,4 @@
-use Rattle.std.specs.Prelude.{◌≡◌, ℕ, ◌+◌, ◌-◌, ◌*◌, ◌<◌, ◌≤◌, ◌^◌, List, length, slice_index_or, All}
+use Rattle.std.specs.Prelude.{◌≡◌, ℕ, ◌+◌, ◌<◌, ◌≤◌, ◌^◌, List, length, slice_index_or, All}
 use Rattle.ra_base.specs.declared.limits.TheConstants.{MOST_TABLE_MW}
 use Rattle.fixed_interval.specs.declared.enclosure.Enclosure.{Enclosure}
 use Rattle.fixed_interval.specs.Enclosure.{one}

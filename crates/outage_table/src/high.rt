@@ -38,7 +38,11 @@ pub fn add_high(ends: &mut HighEnds, capacity: usize, share: Share) -> Result<()
     if share.out == 0 {
         return Ok(());
     }
-    let len = ends.near.len().max(calm_from(&ends.far, capacity, share.small() as usize)) + capacity;
+    let len = ends
+        .near
+        .len()
+        .max(calm_from(&ends.far, capacity, share.small() as usize))
+        + capacity;
     fill(&mut ends.near, &ends.far, len)?;
     mix_high(&mut ends.near, capacity, share);
     raise(&mut ends.far, capacity);

@@ -1,8 +1,8 @@
-use Rattle.std.proofs.Common.{◌≡◌, ℕ, ◌<◌, ◌≤◌, ◌+◌, length, get_or, take, All, sym, ap, subst, ◌∙◌, arith}
+use Rattle.std.proofs.Common.{◌+◌, get_or, take, sym, subst, ◌∙◌, arith}
 use Rattle.std.proofs.lemmas.Result.{IfOk-weaker}
-use Rattle.std.proofs.lemmas.List.Elements.{All-take, All-get_or}
+use Rattle.std.proofs.lemmas.List.Elements.{All-take}
 use Rattle.std.proofs.lemmas.List.Sums.{sum_by_more}
-use Rattle.fixed_interval.specs.Rounding.{floor_div, ceil_div}
+use Rattle.fixed_interval.specs.Rounding.{floor_div}
 use Rattle.system_model.specs.Rates.{AreRates}
 use Rattle.outage_table.specs.declared.units.PooledUnit.{PooledUnit}
 use Rattle.outage_table.specs.Table.{AreEntries}

@@ -1,9 +1,9 @@
-use Rattle.std.proofs.Common.{◌≡◌, ◌+◌, ◌≤◌, ◌++◌, ℕ, length, get_or, ap, take, drop, refl, sym, subst, ◌∙◌, arith}
+use Rattle.std.proofs.Common.{◌≡◌, ◌+◌, ◌≤◌, ◌++◌, ℕ, length, get_or, take, drop, refl, sym, subst, ◌∙◌, arith}
 use Rattle.std.proofs.lemmas.Result.{on_ok_weaker}
-use Rattle.outage_table.specs.Fleet.{AreFalling, AreDescending, end_of}
+use Rattle.outage_table.specs.Fleet.{AreFalling, end_of}
 use Rattle.outage_table.proofs.HeightLaws.{raised_descending, raised_within}
 use Rattle.outage_table.proofs.TableLaws.{given_back}
-use Rattle.outage_table.proofs.FarLaws.{added_made, all_added, filled_falling, moved-falls, none_moved}
+use Rattle.outage_table.proofs.FarLaws.{added_made, all_added, filled_falling, moved-falls}
 use Rattle.outage_table.proofs.high.add_high.Goals as goal
 
 pub mix_high-requires : goal.mix_high-requires

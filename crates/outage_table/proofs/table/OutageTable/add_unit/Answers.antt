@@ -1,4 +1,4 @@
-use Rattle.std.proofs.Common.{ap, subst, sym, ◌∙◌, arith}
+use Rattle.std.proofs.Common.{ap, subst, sym, arith}
 use Rattle.outage_table.specs.States.{total_capacity}
 use Rattle.outage_table.specs.Table.{AreFallingEntries}
 use Rattle.outage_table.proofs.TableLaws.{filled_falling_entries, table_added}
