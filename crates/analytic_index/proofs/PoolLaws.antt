@@ -33,6 +33,13 @@ pooled_within s extra valid is =
     rw (sum_by-append (λ u. u.capacity) (map pooled_unit s.units) (extra_units extra), total_of_pooled s.units)
     (omega (arith, extra_within extra is, valid.within.units.pooled))
 
+-- without an extra one
+pub alone_within : (s : SystemParts) (extra : Option NewUnit) → IsValid s → extra ≡ None
+    → total_capacity (pooled_units s extra) ≤ MOST_POOLED_MW
+alone_within s extra valid none =
+    rw (none, sum_by-append (λ u. u.capacity) (map pooled_unit s.units) [], total_of_pooled s.units)
+    (omega (arith, valid.within.units.pooled))
+
 pub pooled_rated : (s : SystemParts) (extra : Option NewUnit) → IsValid s → IsExtra extra
     → AreRated (pooled_units s extra)
 pooled_rated s extra valid is =

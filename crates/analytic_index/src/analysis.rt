@@ -1,11 +1,11 @@
-ghost use Rattle.std.specs.Prelude.{◌≡◌, ℕ, ◌+◌, ◌-◌, ◌*◌, ◌<◌, ◌≤◌, [], ◌∷◌, length, All, slice_index_or, IfOk};
+ghost use Rattle.std.specs.Prelude.{◌≡◌, ℕ, ◌+◌, ◌-◌, ◌*◌, ◌<◌, ◌≤◌, [], ◌∷◌, ◌++◌, length, All, slice_index_or, IfOk};
 ghost use Rattle.fixed_interval.specs.Enclosure.{one};
 ghost use Rattle.fixed_interval.specs.Rounding.{floor_div, ceil_div};
 ghost use Rattle.system_model.specs.Rates.{AreRates};
 ghost use Rattle.load_model.specs.Need.{AreNetHours, need_of, no_net_hour};
 ghost use Rattle.outage_table.specs.States.{total_capacity, all_weight};
 ghost use Rattle.outage_table.specs.Grid.{unserved_grid};
-ghost use Rattle.analytic_index.specs.Pool.{IsExtra, pool_of};
+ghost use Rattle.analytic_index.specs.Pool.{IsExtra, IsNewUnit, pool_of};
 ghost use Rattle.analytic_index.specs.Index.{needs_of, shifted_needs, IsIndex, EnclosesIndex, IsNarrow, AreEndsWithin};
 ghost use Rattle.analytic_index.specs.Kept.{AreUnserved};
 
@@ -13,7 +13,7 @@ use crate::indices::Index;
 use crate::pool::{NewUnit, pooled};
 use fixed_interval::{Enclosure, add, scale};
 use load_model::NetLoad;
-use outage_table::OutageTable;
+use outage_table::{AddError, OutageTable};
 use ra_base::OutOfMemory;
 use ra_base::limits::{MOST_POOLED_MW, MOST_TABLE_MW};
 use std::alloc::Global;
@@ -31,7 +31,7 @@ const NONE: Enclosure = Enclosure { low: 0, high: 0 };
 
 /// The indices of a system with or without an extra unit, seen as the pool that they are about.
 ///
-/// Only `new` takes memory. Hours count from 0.
+/// Only `new` and `with_unit` take memory. Hours count from 0.
 #[derive(Drop)]
 pub struct Analysis {
     table: OutageTable,
@@ -61,9 +61,34 @@ impl Analysis {
         requires { IsExtra extra }
         ensures pool { IfOk result (λ analysis. analysis ≡ pool_of system.now extra) }
         ensures rated { IfOk result (λ analysis. All (λ unit. AreRates unit.rates) analysis.units) }
+        ensures small { extra ≡ None → IfOk result (λ analysis. total_capacity analysis.units ≤ MOST_POOLED_MW) }
     {
         let units = pooled(alloc, system, extra)?;
         let table = OutageTable::of_units(alloc, &units)?;
+        let loads = NetLoad::new(alloc, system)?;
+        let unserved = unserved_sums(alloc, &table)?;
+        Ok(Analysis {
+            table,
+            loads,
+            unserved,
+        })
+    }
+
+    /// The analysis of the same system with this unit behind its own, which is what `new` gives, in the
+    /// time that one unit takes.
+    pub fn with_unit(
+        &self,
+        alloc: Global,
+        system: &System,
+        unit: NewUnit,
+    ) -> Result<Analysis, OutOfMemory>
+        requires pool { self.now ≡ pool_of system.now None }
+        requires unit { IsNewUnit unit }
+        requires small { total_capacity self.now.units + unit.capacity ≤ MOST_TABLE_MW }
+        ensures pool { IfOk result (λ analysis. analysis ≡ pool_of system.now (Some unit)) }
+        ensures rated { IfOk result (λ analysis. All (λ unit. AreRates unit.rates) analysis.units) }
+    {
+        let table = table_with(alloc, &self.table, unit)?;
         let loads = NetLoad::new(alloc, system)?;
         let unserved = unserved_sums(alloc, &table)?;
         Ok(Analysis {
@@ -174,6 +199,21 @@ impl Analysis {
             return self.unserved[need as usize];
         }
         add(self.unserved[total as usize], scale(ONE, need - total))
+    }
+}
+
+// The table with one more unit.
+fn table_with(alloc: Global, table: &OutageTable, unit: NewUnit) -> Result<OutageTable, OutOfMemory>
+    requires rated { AreRates unit.rates }
+    requires small { total_capacity table.now + unit.capacity ≤ MOST_TABLE_MW }
+    ensures { IfOk result (λ with_unit. with_unit ≡ table.now
+        ++ record { capacity = unit.capacity; rates = unit.rates } ∷ []) }
+{
+    let mut with_unit = table.copy(alloc)?;
+    match with_unit.add_unit(unit.capacity, unit.rates) {
+        Ok(()) => Ok(with_unit),
+        Err(AddError::OutOfMemory) => Err(OutOfMemory),
+        Err(AddError::TooLarge { .. }) => unreachable!(),
     }
 }
 

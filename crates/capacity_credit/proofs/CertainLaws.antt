@@ -1,5 +1,5 @@
 -- What is certain where enclosures don't meet: the exact indices lie so too, and the ends of a bracket are in order.
-use Rattle.std.proofs.Common.{◌≡◌, ℕ, ◌+◌, ◌*◌, ◌<◌, ◌≤◌, List, Option, Some, None, inl, inr, ap, ◌∙◌, add-one, arith}
+use Rattle.std.proofs.Common.{ℕ, ◌+◌, ◌*◌, ◌<◌, ◌≤◌, List, Option, Some, None, inl, inr, add-one, arith}
 use Rattle.std.proofs.lemmas.Bool.{cases_lt}
 use Rattle.std.proofs.Math.Nat.{mul-le-mul_left, lt_of_mul-lt-mul_right}
 use Rattle.fixed_interval.specs.Enclosure.{one}
@@ -17,9 +17,9 @@ use Rattle.capacity_credit.specs.declared.questions.Measure.TheVariants.{Lole, E
 use Rattle.capacity_credit.specs.declared.questions.Side.{Side}
 use Rattle.capacity_credit.specs.declared.questions.Side.TheVariants.{Above, Below}
 use Rattle.capacity_credit.specs.declared.brackets.Bracket.{Bracket}
-use Rattle.capacity_credit.specs.Measures.{measured_end, measured_weight, ends_of, exact_of, LiesWholly, LiesExactly, candidate_needs, candidate_ends, target_ends, low_side, high_side}
+use Rattle.capacity_credit.specs.Measures.{measured_end, measured_weight, ends_of, exact_of, LiesWholly, LiesExactly, candidate_needs, target_ends, low_side, high_side}
 use Rattle.capacity_credit.specs.Bracket.{IsGreatest, IsLeast, IsDecided, IsBracketOf, IsCertifiedEnd, AreInOrder, IsCertifiedOf}
-use Rattle.capacity_credit.proofs.SideLaws.{lower_decided, higher_decided}
+use Rattle.capacity_credit.proofs.SideLaws.{lower_decided}
 
 below : (measure : Measure) (units : List PooledUnit) (needs : List ℕ) → AreRated units
     → measured_end measure floor_div units needs * all_weight units ≤ measured_weight measure units needs * one

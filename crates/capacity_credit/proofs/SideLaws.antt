@@ -1,6 +1,6 @@
 -- Candidates move to one side of the target as they grow.
 use Rattle.std.specs.Prelude.{IsTrue, ◌↔◌}
-use Rattle.std.proofs.Common.{◌≡◌, ℕ, ◌<◌, ◌≤◌, List, Bool, true, false, ap, sym, subst, ◌∙◌, arith}
+use Rattle.std.proofs.Common.{◌≡◌, ℕ, ◌≤◌, List, Bool, true, false, sym, subst, ◌∙◌, arith}
 use Rattle.std.proofs.lemmas.Bool.{false≢true}
 use Rattle.fixed_interval.specs.declared.enclosure.Enclosure.{Enclosure}
 use Rattle.fixed_interval.specs.Rounding.{floor_div, ceil_div}

@@ -1,6 +1,6 @@
 -- The bracket of a unit's worth: the last candidate that enclosures decide on the one side of the target, and the
 -- first that they decide on the other.
-use Rattle.std.specs.Prelude.{◌≡◌, ℕ, ◌+◌, ◌*◌, ◌^◌, ◌<◌, ◌≤◌, Option, Some, None}
+use Rattle.std.specs.Prelude.{ℕ, ◌+◌, ◌*◌, ◌^◌, ◌<◌, ◌≤◌, Option, Some, None}
 use Rattle.fixed_interval.specs.declared.enclosure.Enclosure.{Enclosure}
 use Rattle.system_model.specs.System.{SystemParts}
 use Rattle.analytic_index.specs.declared.pool.NewUnit.{NewUnit}

@@ -1,6 +1,6 @@
 -- What is compared: an index of a pool over some needs, as the ends that are written for it and as the exact
 -- fraction.
-use Rattle.std.specs.Prelude.{◌≡◌, ℕ, ◌*◌, ◌<◌, List, Option, Some, None}
+use Rattle.std.specs.Prelude.{◌≡◌, ℕ, ◌*◌, ◌<◌, List, Some, None}
 use Rattle.fixed_interval.specs.declared.enclosure.Enclosure.{Enclosure}
 use Rattle.fixed_interval.specs.Rounding.{floor_div, ceil_div}
 use Rattle.system_model.specs.System.{SystemParts}

@@ -48,7 +48,7 @@ pub fn credit<L: Ledger>(
     ensures steps { RisesByFew most steps.old steps.new }
 {
     let base = Analysis::new(alloc, system, None)?;
-    let with_unit = Analysis::new(alloc, system, Some(*new_unit))?;
+    let with_unit = base.with_unit(alloc, system, *new_unit)?;
     match kind {
         Kind::Efc => Ok(bracket_of(&with_unit, &base, kind, measure, most, steps)),
         Kind::Elcc => Ok(bracket_of(&base, &with_unit, kind, measure, most, steps)),

@@ -4,7 +4,7 @@ use Rattle.std.proofs.lemmas.Bool.{cases_lt}
 use Rattle.std.proofs.Math.Nat.{mul-le-mul_left, lt_of_mul-lt-mul_right}
 use Rattle.std.proofs.lemmas.Nat.{div-mul-add}
 use Rattle.fixed_interval.specs.Rounding.{floor_div, ceil_div}
-use Rattle.fixed_interval.proofs.Rounds.{floor_div-below, floor_div-close, ceil_div-close, floor_div-small, ceil_div-small, ceil_div-none}
+use Rattle.fixed_interval.proofs.Rounds.{floor_div-below, ceil_div-close, floor_div-small, ceil_div-small, ceil_div-none}
 
 -- a quotient from its bounds
 pub floor_div-is : (n w q : ℕ) → q * w ≤ n → n < (q + 1) * w → q ≡ floor_div n w

@@ -1,4 +1,4 @@
-ghost use Rattle.std.specs.Prelude.{◌≡◌, ◌+◌, ◌*◌, ◌^◌, ◌<◌, ◌≤◌};
+ghost use Rattle.std.specs.Prelude.{◌≡◌, ℕ, ◌+◌, ◌*◌, ◌^◌, ◌<◌, ◌≤◌, min};
 ghost use Rattle.fixed_interval.specs.Rounding.{floor_div, ceil_div};
 
 /// 2^64.
@@ -75,6 +75,15 @@ impl Share {
             return (product / WORD) as u64 + 1;
         }
         self.divided_up(difference)
+    }
+
+    /// The share of so much or of less is 0 or below 1, so that a difference, whatever it is, is
+    /// rounded up to 1.
+    #[inline]
+    pub fn small(self) -> u64
+        ensures { (d : ℕ) → d ≤ result → ceil_div (self.out * d) self.all ≡ min d 1 }
+    {
+        self.small
     }
 
     // Too near to a whole number for the reciprocal to tell.

@@ -5,4 +5,6 @@ pub mod MixLaws
 pub mod LackLaws
 pub mod UnservedLaws
 pub mod TableLaws
+pub mod HeightLaws
+pub mod FarLaws
 pub mod FleetLaws

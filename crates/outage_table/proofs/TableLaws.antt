@@ -1,17 +1,19 @@
 -- What the entries that a table keeps are.
-use Rattle.std.proofs.Common.{◌≡◌, ℕ, zero, suc, ◌+◌, ◌-◌, ◌*◌, ◌^◌, ◌<◌, ◌≤◌, List, [], ◌∷◌, ◌++◌, length, get_or, take, drop, sym, ap, subst, refl, inl, inr, ◌∙◌, arith, length-append}
+use Rattle.std.proofs.Common.{◌≡◌, ℕ, zero, suc, ◌+◌, ◌-◌, ◌^◌, ◌<◌, ◌≤◌, List, [], ◌∷◌, ◌++◌, length, get_or, take, drop, sym, ap, subst, refl, inl, inr, ◌∙◌, arith, length-append}
 use Rattle.std.proofs.lemmas.Bool.{cases_lt}
 use Rattle.std.proofs.lemmas.List.{take_all, drop_all, append-nil}
 use Rattle.std.proofs.lemmas.List.Sums.{fold_push}
 use Rattle.std.proofs.lemmas.List.Elements.{All-nil, All-push}
+use Rattle.ra_base.specs.declared.limits.TheConstants.{MOST_TABLE_MW}
 use Rattle.fixed_interval.specs.declared.enclosure.Enclosure.{Enclosure}
 use Rattle.fixed_interval.specs.Enclosure.{one}
 use Rattle.fixed_interval.specs.Rounding.{floor_div, ceil_div}
+use Rattle.fixed_interval.proofs.Rounds.{floor_div-more, ceil_div-more}
 use Rattle.system_model.specs.Rates.{AreRates, out_weight, up_weight}
 use Rattle.outage_table.specs.declared.units.PooledUnit.{PooledUnit}
 use Rattle.outage_table.specs.States.{total_capacity}
 use Rattle.outage_table.specs.Grid.{no_units, with_unit, grid}
-use Rattle.outage_table.specs.Table.{IsFilledUp, AreMixed, IsTable}
+use Rattle.outage_table.specs.Table.{IsFilledUp, AreFallingEntries, AreMixed, IsTable}
 use Rattle.outage_table.proofs.GridLaws.{grid_ends, part-high, total_capacity-push}
 
 -- past the last entry the written ends are 0
@@ -65,31 +67,52 @@ pub filled_part : (entries longer : List Enclosure) (n : ℕ) (units : List Pool
 filled_part entries longer n units table filled x d h =
     rw (filled_high entries longer n units table filled x d h) (part-high units x table.rated)
 
+pub filled_falling_entries : (entries longer : List Enclosure) (n : ℕ) (units : List PooledUnit) → IsTable entries units
+    → IsFilledUp entries longer n → AreFallingEntries longer
+filled_falling_entries entries longer n units table filled = record {
+  low = λ x y d h l.
+      rw (filled_low entries longer n units table filled x d (omega (arith, filled.count)), filled_low entries longer n units table filled y d (omega (arith, filled.count)))
+      ((grid_ends units table.rated).falls_low x y h);
+  high = λ x y d h l.
+      rw (filled_high entries longer n units table filled x d (omega (arith, filled.count)), filled_high entries longer n units table filled y d (omega (arith, filled.count)))
+      ((grid_ends units table.rated).falls_high x y h);
+  part = λ x d h. filled_part entries longer n units table filled x d (omega (arith, filled.count));
+}
+
 -- one more unit
-pub table-push : (entries longer mixed : List Enclosure) (units : List PooledUnit) (u : PooledUnit) → IsTable entries units
-    → AreRates u.rates → total_capacity units + u.capacity ≤ 400000 → length units + 1 < 2 ^ 32
-    → IsFilledUp entries longer (total_capacity units + u.capacity + 1) → length mixed ≡ length longer → AreMixed longer mixed u.capacity (out_weight u.rates) (up_weight u.rates)
-    → IsTable mixed (units ++ u ∷ [])
-table-push entries longer mixed units u table rated small countable filled long done = record {
+pub table-push : (entries longer mixed : List Enclosure) (units : List PooledUnit) (u : PooledUnit) (out all : ℕ) → IsTable entries units
+    → AreRates u.rates → total_capacity units + u.capacity ≤ MOST_TABLE_MW → length units + 1 < 2 ^ 32
+    → IsFilledUp entries longer (total_capacity units + u.capacity + 1) → length mixed ≡ length longer
+    → out ≡ out_weight u.rates → all ≡ out_weight u.rates + up_weight u.rates
+    → AreMixed longer mixed u.capacity out all → IsTable mixed (units ++ u ∷ [])
+table-push entries longer mixed units u out all table rated small countable filled long is_out is_all done = record {
   written = record {
     count = long ∙ filled.count ∙ ap (λ n. n + 1) (sym (total_capacity-push units u));
     low = λ x d h.
         let within : x < total_capacity units + u.capacity + 1 = omega (arith, long, filled.count) in
         let before : x - u.capacity < total_capacity units + u.capacity + 1 = omega arith in
         done.low x d (omega (arith, long))
-        ∙ ap (λ n. floor_div (up_weight u.rates * n + out_weight u.rates * (get_or longer (x - u.capacity) d).low) (out_weight u.rates + up_weight u.rates))
-        (filled_low entries longer (total_capacity units + u.capacity + 1) units table filled x d within)
-        ∙ ap (λ n. floor_div (up_weight u.rates * grid floor_div units x + out_weight u.rates * n) (out_weight u.rates + up_weight u.rates))
-        (filled_low entries longer (total_capacity units + u.capacity + 1) units table filled (x - u.capacity) d before)
+        ∙ (rw (
+          is_out,
+          is_all,
+          filled_low entries longer (total_capacity units + u.capacity + 1) units table filled x d within,
+          filled_low entries longer (total_capacity units + u.capacity + 1) units table filled (x - u.capacity) d before,
+        )
+        (floor_div-more (out_weight u.rates) (up_weight u.rates) (grid floor_div units x) (grid floor_div units (x - u.capacity)) rated.some
+        ((grid_ends units table.rated).falls_low (x - u.capacity) x (omega arith))))
         ∙ ap (λ g. g x) (sym (fold_push (with_unit floor_div) no_units units u));
     high = λ x d h.
         let within : x < total_capacity units + u.capacity + 1 = omega (arith, long, filled.count) in
         let before : x - u.capacity < total_capacity units + u.capacity + 1 = omega arith in
         done.high x d (omega (arith, long))
-        ∙ ap (λ n. ceil_div (up_weight u.rates * n + out_weight u.rates * (get_or longer (x - u.capacity) d).high) (out_weight u.rates + up_weight u.rates))
-        (filled_high entries longer (total_capacity units + u.capacity + 1) units table filled x d within)
-        ∙ ap (λ n. ceil_div (up_weight u.rates * grid ceil_div units x + out_weight u.rates * n) (out_weight u.rates + up_weight u.rates))
-        (filled_high entries longer (total_capacity units + u.capacity + 1) units table filled (x - u.capacity) d before)
+        ∙ (rw (
+          is_out,
+          is_all,
+          filled_high entries longer (total_capacity units + u.capacity + 1) units table filled x d within,
+          filled_high entries longer (total_capacity units + u.capacity + 1) units table filled (x - u.capacity) d before,
+        )
+        (ceil_div-more (out_weight u.rates) (up_weight u.rates) (grid ceil_div units x) (grid ceil_div units (x - u.capacity)) rated.some
+        ((grid_ends units table.rated).falls_high (x - u.capacity) x (omega arith))))
         ∙ ap (λ g. g x) (sym (fold_push (with_unit ceil_div) no_units units u));
   };
   small = rw (total_capacity-push units u) small;
@@ -105,19 +128,16 @@ given_back slice items n long short =
     ap (λ xs. take n (slice ++ xs)) none ∙ ap (λ xs. take n xs) (append-nil slice) ∙ take_all n slice (omega arith)
 
 -- the table after a unit was pushed and the entries were filled up, lent, mixed and given back
-pub table_added : (entries longer lent mixed : List Enclosure) (units more : List PooledUnit) (u : PooledUnit) (n count out up : ℕ)
+pub table_added : (entries longer lent mixed : List Enclosure) (units more : List PooledUnit) (u : PooledUnit) (n count out all : ℕ)
     → IsTable entries units → AreRates u.rates → n ≡ total_capacity units + u.capacity + 1
-    → total_capacity units + u.capacity ≤ 400000 → length units + 1 < 2 ^ 32 → IsFilledUp entries longer n
-    → lent ≡ longer → length mixed ≡ length lent → AreMixed lent mixed u.capacity out up
-    → out ≡ out_weight u.rates → up ≡ up_weight u.rates → count ≡ length longer → more ≡ units ++ u ∷ []
+    → total_capacity units + u.capacity ≤ MOST_TABLE_MW → length units + 1 < 2 ^ 32 → IsFilledUp entries longer n
+    → lent ≡ longer → length mixed ≡ length lent → AreMixed lent mixed u.capacity out all
+    → out ≡ out_weight u.rates → all ≡ out_weight u.rates + up_weight u.rates → count ≡ length longer → more ≡ units ++ u ∷ []
     → IsTable (take count (mixed ++ drop (length mixed) longer)) more
-table_added entries longer lent mixed units more u n count out up table rated all small countable filled lends long done is_out is_up whole pushed =
+table_added entries longer lent mixed units more u n count out all table rated is_n small countable filled lends long done is_out is_all whole pushed =
     let sized : length mixed ≡ length longer = long ∙ ap length lends in
     let back : take count (mixed ++ drop (length mixed) longer) ≡ mixed
     = given_back mixed longer count (sized ∙ sym whole) (sym whole) in
-    let filled' : IsFilledUp entries longer (total_capacity units + u.capacity + 1) = subst (IsFilledUp entries longer) all filled in
-    let done' : AreMixed longer mixed u.capacity (out_weight u.rates) (up_weight u.rates)
-    = subst (λ o. AreMixed longer mixed u.capacity o (up_weight u.rates)) is_out
-    (subst (λ w. AreMixed longer mixed u.capacity out w) is_up
-    (subst (λ es. AreMixed es mixed u.capacity out up) lends done)) in
-    rw (back, pushed) (table-push entries longer mixed units u table rated small countable filled' sized done')
+    let filled' : IsFilledUp entries longer (total_capacity units + u.capacity + 1) = subst (IsFilledUp entries longer) is_n filled in
+    let done' : AreMixed longer mixed u.capacity out all = subst (λ es. AreMixed es mixed u.capacity out all) lends done in
+    rw (back, pushed) (table-push entries longer mixed units u out all table rated small countable filled' sized is_out is_all done')

@@ -1,9 +1,9 @@
-ghost use Rattle.std.specs.Prelude.{◌≡◌, ℕ, ◌+◌, ◌-◌, ◌*◌, ◌^◌, ◌<◌, ◌≤◌, length, slice_index_or, vec_len, OnOk, OnErr};
-ghost use Rattle.fixed_interval.specs.declared.enclosure.Enclosure.{Enclosure};
+ghost use Rattle.std.specs.Prelude.{◌≡◌, ℕ, ◌+◌, ◌-◌, ◌*◌, ◌<◌, ◌≤◌, length, slice_index_or, vec_len, OnOk, OnErr};
 ghost use Rattle.fixed_interval.specs.Enclosure.{one};
-ghost use Rattle.outage_table.specs.Table.{IsFilledUp, AreMixed};
+ghost use Rattle.fixed_interval.specs.Rounding.{floor_div, ceil_div};
+ghost use Rattle.outage_table.specs.Table.{IsFilledUp, AreFallingEntries, AreMixed};
 
-use fixed_interval::{Enclosure, mix};
+use fixed_interval::{Enclosure, Share};
 use std::alloc::AllocError;
 
 /// Fills the entries up with zeros. Without memory they stay as they were.
@@ -15,22 +15,33 @@ pub fn lengthen(entries: &mut Vec<Enclosure>, len: usize) -> Result<(), AllocErr
     entries.resize(len, Enclosure { low: 0, high: 0 })
 }
 
-/// Each entry becomes the mean of itself and the entry `capacity` before it, or the first one. The
-/// last goes first, so that each is made from entries that are still as they were.
-pub fn mix_all(entries: &mut [Enclosure], capacity: usize, out: u64, up: u64)
-    requires parts { (x : ℕ) (d : Enclosure) → x < length entries.old
-        → (slice_index_or entries.old x d).high ≤ one }
-    requires out_bounded { out ≤ 10 ^ 18 }
-    requires up_bounded { up ≤ 10 ^ 18 }
-    requires weighed { 0 < out + up }
-
-    ensures { AreMixed entries.old entries.new capacity out up }
+/// Each entry moves towards the entry `capacity` before it, or the first one. The last goes first, so
+/// that each is made from entries that are still as they were.
+pub fn mix_all(entries: &mut [Enclosure], capacity: usize, share: Share)
+    requires { AreFallingEntries entries.old }
+    ensures { AreMixed entries.old entries.new capacity share.out share.all }
 {
     for x in (0..entries.len()).rev() {
         let up_end = entries[x];
         let out_end = entries[x.saturating_sub(capacity)];
-        if up_end.low != out_end.low || up_end.high != out_end.high {
-            entries[x] = mix(up_end, out_end, out, up);
-        }
+        entries[x] = towards(up_end, out_end, share);
+    }
+}
+
+// What an entry has, and the share of what a greater one has more, each end rounded outward.
+fn towards(up_end: Enclosure, out_end: Enclosure, share: Share) -> Enclosure
+    requires low { up_end.low ≤ out_end.low }
+    requires high { up_end.high ≤ out_end.high }
+    requires part { out_end.high ≤ one }
+    ensures low { result.low
+        ≡ up_end.low + floor_div (share.out * (out_end.low - up_end.low)) share.all }
+    ensures high { result.high
+        ≡ up_end.high + ceil_div (share.out * (out_end.high - up_end.high)) share.all }
+{
+    let low = share.floor((out_end.low - up_end.low) as u64);
+    let high = share.ceil((out_end.high - up_end.high) as u64);
+    Enclosure {
+        low: up_end.low + u128::from(low),
+        high: up_end.high + u128::from(high),
     }
 }

@@ -1,11 +1,12 @@
 //! The entries of a whole fleet, low ends and high ends each in a list of their own until all units are in.
 ghost use Rattle.std.specs.Prelude.{◌≡◌, ℕ, ◌+◌, ◌^◌, ◌<◌, ◌≤◌, length, slice_index, vec_len, All, IfOk, OnOk};
-ghost use Rattle.fixed_interval.specs.Rounding.{floor_div, ceil_div};
+ghost use Rattle.fixed_interval.specs.Rounding.{floor_div};
 ghost use Rattle.system_model.specs.Rates.{AreRates};
 ghost use Rattle.outage_table.specs.States.{total_capacity};
 ghost use Rattle.outage_table.specs.Table.{AreEntries};
 ghost use Rattle.outage_table.specs.Fleet.{moved, AreFalling, AreJoined};
 
+use crate::high::{HighEnds, add_high, fill};
 use crate::units::PooledUnit;
 use fixed_interval::{Enclosure, Share};
 use ra_base::OutOfMemory;
@@ -22,9 +23,12 @@ pub fn entries_of(alloc: Global, units: &[PooledUnit]) -> Result<Vec<Enclosure>,
     ensures { IfOk result (λ entries. AreEntries entries.items units.now) }
 {
     let mut low = Vec::new(alloc);
-    let mut high = Vec::new(alloc);
+    let mut high = HighEnds {
+        near: Vec::new(alloc),
+        far: Vec::new(alloc),
+    };
     low.push(WHOLE)?;
-    high.push(WHOLE)?;
+    high.near.push(WHOLE)?;
     let mut total = 0;
     for unit in units {
         let share = Share::new(u64::from(unit.rates.f), u64::from(unit.rates.r));
@@ -32,15 +36,16 @@ pub fn entries_of(alloc: Global, units: &[PooledUnit]) -> Result<Vec<Enclosure>,
         add_high(&mut high, unit.capacity as usize, share)?;
         total += unit.capacity as usize;
     }
-    joined(alloc, &low, &high, total + 1)
+    fill(&mut high.near, &high.far, total + 1)?;
+    joined(alloc, &low, &high.near, total + 1)
 }
 
 // One more unit in the low ends.
 fn add_low(ends: &mut Vec<u64>, capacity: usize, share: Share) -> Result<(), AllocError>
-    requires falling { AreFalling ends.old.items }
+    requires falling { AreFalling (slice_index ends.old.items) }
     requires fits { vec_len ends.old + capacity < 2 ^ 32 }
     ensures ok { OnOk result ((x : ℕ) → slice_index ends.new.items x
-        ≡ moved floor_div share.out share.all capacity ends.old.items x) }
+        ≡ moved floor_div share.out share.all capacity (slice_index ends.old.items) x) }
     ensures len { OnOk result (vec_len ends.new ≤ vec_len ends.old + capacity) }
 {
     let len = ends.len() + capacity;
@@ -50,49 +55,16 @@ fn add_low(ends: &mut Vec<u64>, capacity: usize, share: Share) -> Result<(), All
     Ok(())
 }
 
-// One more unit in the high ends.
-fn add_high(ends: &mut Vec<u64>, capacity: usize, share: Share) -> Result<(), AllocError>
-    requires falling { AreFalling ends.old.items }
-    requires fits { vec_len ends.old + capacity < 2 ^ 32 }
-    ensures ok { OnOk result ((x : ℕ) → slice_index ends.new.items x
-        ≡ moved ceil_div share.out share.all capacity ends.old.items x) }
-    ensures len { OnOk result (vec_len ends.new ≤ vec_len ends.old + capacity) }
-{
-    let len = ends.len() + capacity;
-    ends.resize(len, 0)?;
-    mix_high(ends, capacity, share);
-    trim(ends);
-    Ok(())
-}
-
 // The last end goes first, so that each is made from ends that are still as they were.
 fn mix_low(ends: &mut [u64], capacity: usize, share: Share)
-    requires { AreFalling ends.old }
+    requires { AreFalling (slice_index ends.old) }
     ensures { (x : ℕ) → x < length ends.old
-        → slice_index ends.new x ≡ moved floor_div share.out share.all capacity ends.old x }
+        → slice_index ends.new x ≡ moved floor_div share.out share.all capacity (slice_index ends.old) x }
 {
     for x in (0..ends.len()).rev() {
         let up_end = ends[x];
         let out_end = ends[x.saturating_sub(capacity)];
         ends[x] = up_end + share.floor(out_end - up_end);
-    }
-}
-
-fn mix_high(ends: &mut [u64], capacity: usize, share: Share)
-    requires { AreFalling ends.old }
-    ensures { (x : ℕ) → x < length ends.old
-        → slice_index ends.new x ≡ moved ceil_div share.out share.all capacity ends.old x }
-{
-    let near = capacity.min(ends.len());
-    'far: for x in (near..ends.len()).rev() {
-        let up_end = ends[x];
-        let out_end = ends[x - capacity];
-        ends[x] = up_end + share.ceil(out_end - up_end);
-    }
-    'near: for x in (0..near).rev() {
-        let up_end = ends[x];
-        let first = ends[0];
-        ends[x] = up_end + share.ceil(first - up_end);
     }
 }
 
@@ -118,7 +90,7 @@ fn joined(
     high: &[u64],
     len: usize,
 ) -> Result<Vec<Enclosure>, OutOfMemory>
-    requires { (x : ℕ) → slice_index low.now x ≤ slice_index high.now x }
+    requires { (x : ℕ) → x < len → slice_index low.now x ≤ slice_index high.now x }
     ensures { IfOk result (λ entries. AreJoined entries.items low.now high.now len) }
 {
     let mut entries = Vec::with_capacity(alloc, len)?;

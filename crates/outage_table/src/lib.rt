@@ -5,12 +5,12 @@
 mod entries;
 mod error;
 mod fleet;
+mod high;
 mod limits;
 mod table;
 mod units;
 
 pub use error::AddError;
-pub use limits::LARGEST_TOTAL;
 pub use table::OutageTable;
 pub use units::PooledUnit;
 

@@ -9,9 +9,9 @@ ghost use Rattle.outage_table.specs.Refusal.{AnswersTotal};
 use crate::entries::{lengthen, mix_all};
 use crate::error::AddError;
 use crate::fleet::entries_of;
-use crate::limits::{LARGEST_TOTAL, ONE};
+use crate::limits::ONE;
 use crate::units::PooledUnit;
-use fixed_interval::{Enclosure, add};
+use fixed_interval::{Enclosure, Share, add};
 use ra_base::OutOfMemory;
 use ra_base::limits::MOST_TABLE_MW;
 use std::alloc::Global;
@@ -71,6 +71,16 @@ impl OutageTable {
         })
     }
 
+    /// A table of the same units.
+    pub fn copy(&self, alloc: Global) -> Result<OutageTable, OutOfMemory>
+        ensures { IfOk result (λ table. table ≡ self.now) }
+    {
+        Ok(OutageTable {
+            units: Vec::from_slice(alloc, &self.units)?,
+            entries: Vec::from_slice(alloc, &self.entries)?,
+        })
+    }
+
     /// Adds a unit of so many MW after the others. A refusal leaves the table as it was.
     ///
     /// # Errors
@@ -83,7 +93,7 @@ impl OutageTable {
         ensures err { OnErr result (self.new ≡ self.old) }
     {
         let total = u64::from(self.total()) + u64::from(capacity);
-        if total > u64::from(LARGEST_TOTAL) {
+        if total > u64::from(MOST_TABLE_MW) {
             return Err(AddError::TooLarge { total });
         }
         if self.units.len() >= u32::MAX as usize {
@@ -92,8 +102,8 @@ impl OutageTable {
         self.units.push(PooledUnit { capacity, rates })?;
         match lengthen(&mut self.entries, total as usize + 1) {
             Ok(()) => {
-                let (out, up) = (u64::from(rates.f), u64::from(rates.r));
-                mix_all(&mut self.entries, capacity as usize, out, up);
+                let share = Share::new(u64::from(rates.f), u64::from(rates.r));
+                mix_all(&mut self.entries, capacity as usize, share);
                 Ok(())
             }
             Err(e) => {
@@ -106,7 +116,7 @@ impl OutageTable {
     /// The capacity of all units, in MW.
     pub fn total(&self) -> u32
         ensures value { result ≡ total_capacity self.now }
-        ensures small { result ≤ 400000 }
+        ensures small { result ≤ MOST_TABLE_MW }
     {
         (self.entries.len() - 1) as u32
     }
@@ -145,7 +155,7 @@ impl OutageTable {
 
     /// The expected MW that are unserved in an hour with this need. It takes no memory.
     pub fn unserved(&self, need: u32) -> Enclosure
-        requires { need ≤ 400000 }
+        requires { need ≤ MOST_TABLE_MW }
 
         ensures low { result.low ≡ unserved_grid floor_div self.now need }
         ensures high { result.high ≡ unserved_grid ceil_div self.now need }

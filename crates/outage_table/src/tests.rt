@@ -84,3 +84,48 @@ fn a_unit_past_the_largest_total_is_refused(rt: HostRuntime) {
         Err(OutOfMemory) => panic!(rt; "out of memory"),
     }
 }
+
+// Six units that are seldom out: past 19 MW an outage is too improbable for a low end above 0, and
+// the high ends are few units of 2^-60.
+fn six_units(alloc: Global) -> Result<(OutageTable, OutageTable), AddError> {
+    let rates = Rates {
+        f: 100_000,
+        r: 999_900_000,
+    };
+    let unit = |capacity| PooledUnit { capacity, rates };
+    let units = [unit(3), unit(5), unit(2), unit(7), unit(4), unit(1)];
+    match (
+        OutageTable::of_units(alloc, &units),
+        OutageTable::empty(alloc),
+    ) {
+        (Ok(fleet), Ok(mut table)) => {
+            for unit in units {
+                table.add_unit(unit.capacity, unit.rates)?;
+            }
+            Ok((fleet, table))
+        }
+        _ => Err(AddError::OutOfMemory),
+    }
+}
+
+#[test]
+fn a_fleet_has_the_entries_of_its_units_one_after_the_other(rt: HostRuntime) {
+    match six_units(rt.alloc()) {
+        Ok((fleet, table)) => {
+            assert_eq!(rt; fleet.units(), 6);
+            assert_eq!(rt; fleet.total(), 22);
+            for x in 0..24 {
+                assert!(rt; fleet.at_least(x) == table.at_least(x), "at {x}");
+            }
+            assert_eq!(rt;
+                fleet.at_least(19),
+                Enclosure {
+                    low: 115,
+                    high: 117
+                }
+            );
+            assert_eq!(rt; fleet.at_least(20), Enclosure { low: 0, high: 2 });
+        }
+        Err(e) => panic!(rt; "{e:?}"),
+    }
+}

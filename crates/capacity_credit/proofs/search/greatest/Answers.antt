@@ -1,4 +1,4 @@
-use Rattle.std.proofs.Common.{◌<◌, ◌≤◌, ◌+◌, ◌-◌, ◌/◌, arith}
+use Rattle.std.proofs.Common.{arith}
 use Rattle.capacity_credit.specs.Measures.{low_side}
 use Rattle.capacity_credit.specs.Bracket.{IsDecided}
 use Rattle.capacity_credit.specs.Search.{ends}

@@ -1,4 +1,4 @@
-use Rattle.std.proofs.Common.{◌≡◌, ◌-◌}
+use Rattle.std.proofs.Common.{◌-◌}
 use Rattle.capacity_credit.specs.Measures.{high_side, candidate_ends}
 use Rattle.capacity_credit.specs.Bracket.{IsDecided, StandsAt}
 use Rattle.capacity_credit.specs.Search.{ends}

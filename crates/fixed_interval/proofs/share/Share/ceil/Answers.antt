@@ -1,4 +1,4 @@
-use Rattle.std.proofs.Common.{◌≡◌, ◌+◌, ◌*◌, ◌/◌, ◌%◌, ◌^◌, ◌<◌, refl, arith}
+use Rattle.std.proofs.Common.{◌≡◌, ◌*◌, ◌/◌, ◌%◌, ◌^◌, refl, arith}
 use Rattle.fixed_interval.proofs.ShareLaws.{share_ceil, small_ceil_min}
 use Rattle.fixed_interval.proofs.share.Share.ceil.Goals as goal
 
