@@ -1,11 +1,9 @@
 -- Which shares are apart: those of a pass, those of two passes that are joined, and all that a history gives out.
-use Rattle.std.proofs.Common.{◌≡◌, ◌&&◌, ◌||◌, ℕ, ◌+◌, ◌≤◌, inl, inr, Bool, true, false, not, List, [], ◌∷◌, ◌++◌, refl, ap, sym, ◌∙◌, subst, arith}
-use Rattle.std.proofs.lemmas.Bool.{cases_Bool, false≢true, or_left, or_right}
-use Rattle.ra_base.specs.declared.limits.TheConstants.{MOST_SAMPLES}
+use Rattle.std.proofs.Common.{◌≡◌, ◌&&◌, ◌||◌, ℕ, ◌≤◌, inl, inr, Bool, true, false, not, List, ◌++◌, refl, ap, sym, ◌∙◌, arith}
+use Rattle.std.proofs.lemmas.Bool.{cases_Bool, false≢true, or_left}
 use Rattle.campaign_core.specs.declared.run.SampleRange.{SampleRange}
-use Rattle.campaign_core.specs.declared.call.Entry.{Entry}
-use Rattle.campaign_core.specs.Ranges.{range, has_range, times, AreDisjoint}
-use Rattle.campaign_core.specs.History.{ranges_of, deposits_of, out_of, calls_of}
+use Rattle.campaign_core.specs.Ranges.{has_range, times, AreDisjoint}
+use Rattle.campaign_core.specs.History.{ranges_of, deposits_of, out_of}
 use Rattle.campaign_core.proofs.Totals.{times-append}
 use Rattle.campaign_core.proofs.WithoutLaws.{has-append, has-nil, has-without, has_times, first_inside, times_without}
 use Rattle.campaign_core.proofs.HistoryLaws.{ranges-nil, ranges-append, deposits-append}
