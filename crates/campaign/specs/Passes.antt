@@ -108,12 +108,14 @@ module _ {B : Type 0} where
   -- the same but for ranges that begin at a sample
   abbrev pub KeepsOthers : ℕ → View B → View B → Type 0
   KeepsOthers first v w =
-      (r : SampleRange) → r.first ≢ first → has_range (out_of v.calls) r ≡ true → has_range (out_of w.calls) r ≡ true
+      (r : SampleRange) → r.first ≢ first → has_range (out_of v.calls) r ≡ true
+      → has_range (out_of w.calls) r ≡ true
 
   -- after a join just what was out at either is out
   abbrev pub HasBoth : View B → View B → View B → Type 0
   HasBoth v other w =
-      (r : SampleRange) → has_range (out_of w.calls) r ≡ (has_range (out_of v.calls) r || has_range (out_of other.calls) r)
+      (r : SampleRange)
+      → has_range (out_of w.calls) r ≡ (has_range (out_of v.calls) r || has_range (out_of other.calls) r)
 
   -- what an extension did, by its answer
   abbrev pub Extends : View B → ℕ → Extend → View B → Type 0

@@ -17,30 +17,36 @@ use std::sync::Wait;
 /// The answer to a claim.
 #[derive(Debug)]
 pub enum Claim {
+    /// The campaign is cancelled.
     Cancelled,
-    /// The campaign is sealed, and all samples were given out.
+    /// The campaign is sealed, and all samples up to its target were given out.
     Drained,
-    /// All samples were given out.
+    /// All samples up to the target were given out; an extension may add some.
     Idle,
     /// The samples of this share are to be run.
     Range(Share),
-    /// Between the look at the gate and the exchange another call changed it.
+    /// Between the look at the gate and the exchange another call changed it. Nothing was asked.
     Moved { before: Gate, after: Gate },
 }
 
 /// The answer to an extension.
 #[derive(Clone, Copy, Debug, PartialEq, Eq)]
 pub enum Extend {
+    /// The campaign is cancelled.
     Cancelled,
+    /// The campaign is sealed.
     Sealed,
+    /// The target, in samples, would pass the most that a study may have. It stays.
     TooMany { target: u32 },
+    /// The new target, in samples.
     Now { target: u32 },
-    /// Between the look at the gate and the exchange another call changed it.
+    /// Between the look at the gate and the exchange another call changed it. Nothing was asked.
     Moved { before: Gate, after: Gate },
 }
 
 impl<W: Work> Shared<Book<W>, W> {
-    /// Asks for samples to run. It waits for nobody.
+    /// Asks for samples to run: at most a block of them, of which none was given before, to whatever pass. It
+    /// waits for nobody and takes no memory.
     pub fn claim(&self, pass: &mut Pass<W>) -> Claim
         requires { IsOf self.now pass.old }
         ensures pass { IsOf self.now pass.new }
@@ -72,7 +78,7 @@ impl<W: Work> Shared<Book<W>, W> {
         }
     }
 
-    /// Asks for more samples. It waits for nobody.
+    /// Asks for `more` samples behind the target. It waits for nobody and takes no memory.
     pub fn extend(&self, pass: &mut Pass<W>, more: u32) -> Extend
         requires pass { IsOf self.now pass.old }
         requires more { (1 ≤ more) × (more ≤ MOST_SAMPLES) }
@@ -100,7 +106,7 @@ impl<W: Work> Shared<Book<W>, W> {
         }
     }
 
-    /// Seals the campaign: no extension is taken any more.
+    /// Seals the campaign, also where it is sealed: no extension is taken any more.
     pub fn seal(&self, pass: &mut Pass<W>)
         requires { IsOf self.now pass.old }
         ensures pass { IsOf self.now pass.new }
@@ -110,7 +116,8 @@ impl<W: Work> Shared<Book<W>, W> {
         self.book.mark_sealed(&mut pass.seat);
     }
 
-    /// Cancels the campaign: no samples are given out any more.
+    /// Cancels the campaign, also where it is cancelled: no samples are given out any more. Deposits are
+    /// still taken.
     pub fn cancel(&self, pass: &mut Pass<W>)
         requires { IsOf self.now pass.old }
         ensures pass { IsOf self.now pass.new }
@@ -120,7 +127,7 @@ impl<W: Work> Shared<Book<W>, W> {
         self.book.mark_cancelled(&mut pass.seat);
     }
 
-    /// How far the campaign is.
+    /// How far the campaign is: one load of the gate.
     pub fn progress(&self, pass: &mut Pass<W>) -> Gate
         requires { IsOf self.now pass.old }
         ensures pass { IsOf self.now pass.new }
@@ -131,7 +138,7 @@ impl<W: Work> Shared<Book<W>, W> {
     }
 
     /// Enters what a share came to, and answers the number of deposits. It may wait for the pass that has the
-    /// book. Without memory it comes back, and the share is still out.
+    /// book. Without memory the same share and sum come back, and the share is still out.
     pub fn deposit<R: Wait>(
         &self,
         rt: &R,

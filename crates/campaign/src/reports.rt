@@ -24,8 +24,8 @@ pub struct Interim<W: Work> {
 }
 
 impl<W: Work> Shared<Book<W>, W> {
-    /// Reports what was deposited so far. It may wait for the pass that has the book. Without memory no report
-    /// was made.
+    /// Reports what was deposited so far, all at one point of the history. It may wait for the pass that has
+    /// the book. Without memory no report was made.
     pub fn interim<R: Wait>(
         &self,
         rt: &R,

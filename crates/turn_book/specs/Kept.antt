@@ -27,7 +27,8 @@ module _ {B : Type 0} where
     pub others : (n : ℕ) → owns v n ≡ false → calls_of n v.calls ≡ []
     pub out : (first count : ℕ) → has_range (out_of v.calls) (range first count) ≡ true
         → has_range (deposits_of h) (range first count) ≡ false
-    pub given : (r : SampleRange) → has_range (deposits_of v.calls) r ≡ true → has_range (ranges_of v.calls) r ≡ true
+    pub given : (r : SampleRange) → has_range (deposits_of v.calls) r ≡ true
+        → has_range (ranges_of v.calls) r ≡ true
     pub apart : (n : ℕ) → how_often n (numbers_of v) ≤ 1
     pub below : (n : ℕ) → owns v n ≡ true → n < made
     pub keeps_made : v.number ≡ 0 → v.made ≡ made

@@ -199,8 +199,9 @@ module _ {B : Type 0} where
     pub calls : v.calls ≡ []
 
   -- a view is sound: its history is legal; the entries of its numbers in it are its own calls, each once; a
-  -- range that is out among its own calls isn't deposited there; what it deposited was given to it; its numbers
-  -- differ; and of the opening seat, each number below the number made, and no other, may be in the history
+  -- range that is out among its own calls isn't deposited there; what it deposited was given to it; its
+  -- numbers differ; and of the opening seat, each number below the number made, and no other, may be in the
+  -- history
   pub record IsSound (v : View B) : Type 0 where
     pub target : (1 ≤ v.target) × (v.target ≤ MOST_SAMPLES)
     pub block : (1 ≤ v.block) × (v.block ≤ MOST_BLOCK)
@@ -209,7 +210,8 @@ module _ {B : Type 0} where
     pub others : (n : ℕ) → owns v n ≡ false → calls_of n v.calls ≡ []
     pub out : (first count : ℕ) → has_range (out_of v.calls) (range first count) ≡ true
         → has_range (deposits_of v.seen) (range first count) ≡ false
-    pub given : (r : SampleRange) → has_range (deposits_of v.calls) r ≡ true → has_range (ranges_of v.calls) r ≡ true
+    pub given : (r : SampleRange) → has_range (deposits_of v.calls) r ≡ true
+        → has_range (ranges_of v.calls) r ≡ true
     pub apart : (n : ℕ) → how_often n (numbers_of v) ≤ 1
     pub below : v.number ≡ 0 → (n : ℕ) → owns v n ≡ true → n < v.made
     pub callers : v.number ≡ 0 → (n : ℕ) → v.made ≤ n → calls_of n v.seen ≡ []
