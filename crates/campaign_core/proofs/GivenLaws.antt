@@ -1,6 +1,6 @@
 -- The ranges that a legal history gives out, and the callers to whom it gives them.
-use Rattle.std.proofs.Common.{◌≡◌, ℕ, ◌+◌, ◌-◌, ◌≤◌, inl, inr, true, ◌||◌, List, [], ◌∷◌, ◌++◌, length, min, refl, ap, sym, ◌∙◌, subst, arith, length-append}
-use Rattle.std.proofs.lemmas.Bool.{cases_eq, eq-eqb, ne_eqb, or_cases, or_left, or_right, false≢true}
+use Rattle.std.proofs.Common.{◌≡◌, ℕ, zero, suc, ◌+◌, ◌-◌, ◌<◌, ◌≤◌, ◌==◌, ◌⊎◌, inl, inr, true, cond, ◌||◌, List, [], ◌∷◌, ◌++◌, length, min, refl, ap, sym, ◌∙◌, subst, arith, length-append}
+use Rattle.std.proofs.lemmas.Bool.{cases_eq, cases_lt, eq-eqb, ne_eqb, or_cases, or_left, or_right, false≢true}
 use Rattle.std.proofs.lemmas.List.{append-nil, nil_from_length}
 use mathlib.Core.List.{IsPrefix}
 use Rattle.ra_base.specs.declared.limits.TheConstants.{MOST_SAMPLES, MOST_BLOCK}
@@ -10,10 +10,10 @@ use Rattle.campaign_core.specs.declared.call.Call.TheVariants.{Claim, Extend, Se
 use Rattle.campaign_core.specs.declared.call.Call.TheVariants.{Progress as AskProgress, Interim as AskInterim}
 use Rattle.campaign_core.specs.declared.call.Entry.{Entry}
 use Rattle.campaign_core.specs.declared.gate.Gate.{Gate}
-use Rattle.campaign_core.specs.Ranges.{range, has_range, times, weight_of, total, AreSame, AreFilled}
+use Rattle.campaign_core.specs.Ranges.{range, has_range, times, weight_of, total, AreSame, AreDisjoint, AreFilled}
 use Rattle.campaign_core.specs.History.{range_in, claimed_in, reply_of, gate_of, ranges_of, deposits_of, out_of, calls_of, Follows, IsLegal}
 use Rattle.campaign_core.specs.Machine.{IsSound}
-use Rattle.campaign_core.proofs.Totals.{weight-none, weight-cut, total-nil, total-one, total-append, times-nil, times-append, disjoint_one, disjoint_same, same_sym}
+use Rattle.campaign_core.proofs.Totals.{sum_below, below-none, below-both, below-only, below-le, weight-none, weight-cut, total-nil, total-one, total-append, times-nil, times-append, disjoint_one, disjoint_same, same_sym}
 use Rattle.campaign_core.proofs.WithoutLaws.{has-append, has-nil, has_times, has_filled, first_inside, filled_append}
 use Rattle.campaign_core.proofs.HistoryLaws.{gate-nil, gate_push, ranges-nil, ranges-append, ranges-one, ranges_push, deposits-nil, deposits-append, calls-nil, calls-append, legal_by_pushes}
 use Rattle.campaign_core.proofs.MachineLaws.{machine_at, sound_history, claim_cases, extend_cases}
@@ -146,14 +146,98 @@ two_callers n m ne (e ∷ h) s =
           ]
     ]
 
+-- no sample is given out twice
+pub given_apart : (opening block : ℕ) → (1 ≤ opening) × (opening ≤ MOST_SAMPLES) → (1 ≤ block) × (block ≤ MOST_BLOCK) → (h : List Entry) → IsLegal opening block h
+    → AreDisjoint (ranges_of h)
+given_apart opening block o b h legal =
+    let given = ranges_given opening block o b h legal in
+    let sound = sound_history opening block o b h legal in
+    disjoint_same (range 0 (gate_of opening h).next ∷ []) (ranges_of h) (same_sym (ranges_of h) (range 0 (gate_of opening h).next ∷ []) given.1) (disjoint_one (gate_of opening h).next (omega (arith, sound.next, sound.target)))
+
 -- a range is given to one caller
 pub one_owner : (opening block : ℕ) → (1 ≤ opening) × (opening ≤ MOST_SAMPLES) → (1 ≤ block) × (block ≤ MOST_BLOCK) → (h : List Entry) → IsLegal opening block h
     → (n m : ℕ) (r : SampleRange) → (n ≡ m → ⊥) → 1 ≤ r.count → has_range (ranges_of (calls_of n h)) r ≡ true → has_range (ranges_of (calls_of m h)) r ≡ true → ⊥
 one_owner opening block o b h legal n m r ne full to_n to_m =
-    let given = ranges_given opening block o b h legal in
-    let sound = sound_history opening block o b h legal in
-    let once = (disjoint_same (range 0 (gate_of opening h).next ∷ []) (ranges_of h) (same_sym (ranges_of h) (range 0 (gate_of opening h).next ∷ []) given.1) (disjoint_one (gate_of opening h).next (omega (arith, sound.next, sound.target))) r.first).0 in
+    let once = (given_apart opening block o b h legal r.first).0 in
     omega (arith, once, two_callers n m ne h r.first, has_times (ranges_of (calls_of n h)) r r.first to_n (first_inside r full), has_times (ranges_of (calls_of m h)) r r.first to_m (first_inside r full))
+
+-- how often a sample was given to each caller
+abbrev given_each : ℕ → List Entry → ℕ → ℕ
+given_each s h = λ n. times s (ranges_of (calls_of n h))
+
+-- the callers below a number, one entry more in front
+given_more : (s m : ℕ) (e : Entry) (h : List Entry) → sum_below (given_each s (e ∷ h)) m ≡ sum_below (λ n. cond (n == e.caller) (times s (range_in e.reply)) 0) m + sum_below (given_each s h) m
+given_more s m e h = below-both (λ n. cond (n == e.caller) (times s (range_in e.reply)) 0) (given_each s h) (given_each s (e ∷ h)) m (λ n. one n)
+  where
+    one : (n : ℕ) → given_each s (e ∷ h) n ≡ cond (n == e.caller) (times s (range_in e.reply)) 0 + given_each s h n
+    one n =
+        elim (cases_eq n e.caller) [
+          | inl is ↦ rw (eq-eqb n e.caller is) (given_to n e h s (sym is))
+          | inr off ↦ rw (ne_eqb n e.caller off) (omega (arith, not_given_to n e h s (λ q. off (sym q))))
+        ]
+
+all_given : (s : ℕ) (e : Entry) (h : List Entry) → times s (ranges_of (e ∷ h)) ≡ times s (range_in e.reply) + times s (ranges_of h)
+all_given s e h = ap (times s) (ranges_cons e h) ∙ times-append s (range_in e.reply) (ranges_of h)
+
+none_given : (s m : ℕ) → sum_below (given_each s []) m ≡ 0
+none_given s m = below-none (given_each s []) m (λ n l. ap (λ l. times s (ranges_of l)) (calls-nil n) ∙ (ap (times s) ranges-nil ∙ times-nil s))
+
+-- what was given to the callers below a number was given out
+callers_given : (s m : ℕ) (h : List Entry) → sum_below (given_each s h) m ≤ times s (ranges_of h)
+callers_given s m [] = omega (arith, none_given s m)
+callers_given s m (e ∷ h) = omega (arith, given_more s m e h, all_given s e h, callers_given s m h, here (times s (range_in e.reply)))
+  where
+    here : (t : ℕ) → sum_below (λ n. cond (n == e.caller) t 0) m ≤ t
+    here t =
+        elim (cases_lt e.caller m) [
+          | inl l ↦ omega (arith, below-only (λ n. t) e.caller m l)
+          | inr g ↦ omega (arith, below-none (λ n. cond (n == e.caller) t 0) m (λ n l. ap (λ b. cond b t 0) (ne_eqb n e.caller (λ q. omega arith))))
+        ]
+
+-- no caller has this number or one behind it
+abbrev CalledBelow : ℕ → List Entry → Type 0
+CalledBelow m h = (n : ℕ) → m ≤ n → calls_of n h ≡ []
+
+called_tail : (m : ℕ) (e : Entry) (h : List Entry) → CalledBelow m (e ∷ h) → CalledBelow m h
+called_tail m e h below n le =
+    nil_from_length (calls_of n h) (omega (arith, ap length (below n le), ap length (calls_cons n e h), length-append (calls_of n (e ∷ [])) (calls_of n h)))
+
+called_head : (m : ℕ) (e : Entry) (h : List Entry) → CalledBelow m (e ∷ h) → e.caller < m
+called_head m e h below =
+    elim (cases_lt e.caller m) [
+      | inl l ↦ l
+      | inr g ↦
+          let one : length (calls_of e.caller (e ∷ [])) ≡ suc zero = ap length (calls-own e.caller e refl) in
+          absurd (omega (arith, ap length (below e.caller g), ap length (calls_cons e.caller e h), length-append (calls_of e.caller (e ∷ [])) (calls_of e.caller h), one))
+    ]
+
+-- what was given out was given to callers
+given_called : (s m : ℕ) (h : List Entry) → CalledBelow m h → times s (ranges_of h) ≤ sum_below (given_each s h) m
+given_called s m [] below = omega (arith, ap (times s) ranges-nil, times-nil s)
+given_called s m (e ∷ h) below =
+    let here = below-only (λ n. times s (range_in e.reply)) e.caller m (called_head m e h below) in
+    omega (arith, given_more s m e h, all_given s e h, given_called s m h (called_tail m e h below), here)
+
+some_below : (h : List Entry) → (m : ℕ) × CalledBelow m h
+some_below [] = (0, λ n le. calls-nil n)
+some_below (e ∷ h) =
+    let rest = some_below h in (
+      e.caller + 1 + rest.0,
+      λ n le. calls_cons n e h ∙ (ap (λ l. l ++ calls_of n h) (calls-other n e (λ q. omega arith)) ∙ rest.1 n (omega arith)),
+    )
+
+-- the calls of some callers of a history are given no more than the history
+pub given_among : (g h : List Entry) → ((n : ℕ) → (calls_of n g ≡ []) ⊎ (calls_of n g ≡ calls_of n h)) → (s : ℕ) → times s (ranges_of g) ≤ times s (ranges_of h)
+given_among g h among s =
+    let some = some_below g in
+    omega (arith, given_called s some.0 g some.1, below-le (given_each s g) (given_each s h) some.0 (λ n l. each n), callers_given s some.0 h)
+  where
+    each : (n : ℕ) → given_each s g n ≤ given_each s h n
+    each n =
+        elim (among n) [
+          | inl none ↦ omega (arith, ap (λ l. times s (ranges_of l)) none, ap (times s) ranges-nil, times-nil s)
+          | inr same ↦ omega (arith, ap (λ l. times s (ranges_of l)) same)
+        ]
 
 -- what is told of the entries of a history, one after the other
 module _ (told : List Entry → List SampleRange) (told-nil : told [] ≡ []) (told-append : (g h : List Entry) → told (g ++ h) ≡ told g ++ told h) where

@@ -157,6 +157,15 @@ filled_without ds (r ∷ rs) f =
       | inr away ↦ subst AreFilled (sym (without-keeps ds r rs away)) (f.0, filled_without ds rs f.1)
     ]
 
+-- what is left has a sample no more often
+pub times_without : (n : ℕ) (ds rs : List SampleRange) → times n (without ds rs) ≤ times n rs
+times_without n ds [] = omega (arith, ap (times n) (without-nil ds))
+times_without n ds (r ∷ rs) =
+    elim (cases_Bool (has_range ds r)) [
+      | inl here ↦ omega (arith, ap (times n) (without-drops ds r rs here), times-cons n r rs, times_without n ds rs)
+      | inr away ↦ omega (arith, ap (times n) (without-keeps ds r rs away), times-cons n r rs, times-cons n r (without ds rs), times_without n ds rs)
+    ]
+
 -- what isn't there can be left out
 pub without-absent : (r : SampleRange) (rs : List SampleRange) → has_range rs r ≡ false → without (r ∷ []) rs ≡ rs
 without-absent r [] h = without-nil (r ∷ [])

@@ -16,7 +16,7 @@ use Rattle.campaign_core.specs.Ranges.{range, has_range}
 use Rattle.campaign_core.specs.History.{ranges_of, deposits_of, out_of, calls_of}
 use Rattle.campaign_core.proofs.Totals.{sum_below, below-zero, below-suc, below-none, below-both, below-same, below-only}
 use Rattle.campaign_core.proofs.WithoutLaws.{has-nil, has-append, has-without}
-use Rattle.campaign_core.proofs.HistoryLaws.{ranges-nil, ranges-append, deposits-append, calls-nil, calls-append, prefix_self}
+use Rattle.campaign_core.proofs.HistoryLaws.{ranges-nil, ranges-append, deposits-nil, deposits-append, calls-nil, calls-append, prefix_self}
 use Rattle.campaign_core.proofs.GivenLaws.{prefix_shorter, calls_push_own, calls_between, calls_none}
 use Rattle.turn_book.specs.declared.view.View.{View}
 use Rattle.turn_book.specs.declared.view.Opening.{Opening}
@@ -134,6 +134,7 @@ module _ {B : Type 0} where
     mine = seat.mine;
     others = seat.others;
     out = seat.out;
+    given = seat.given;
     apart = seat.apart;
     below = seat.below;
     keeps_made = seat.keeps_made;
@@ -198,6 +199,7 @@ module _ {B : Type 0} where
         mine = seat.mine;
         others = seat.others;
         out = seat.out;
+        given = seat.given;
         apart = seat.apart;
         below = λ n own. omega (arith, seat.below n own);
         keeps_made = made;
@@ -216,6 +218,7 @@ module _ {B : Type 0} where
             mine = seat.mine;
             others = seat.others;
             out = seat.out;
+            given = seat.given;
             apart = seat.apart;
             below = λ n own. omega (arith, seat.below n own);
             keeps_made = λ z. ap (λ m. m + 1) (seat.keeps_made z);
@@ -248,6 +251,7 @@ module _ {B : Type 0} where
             mine = λ n own. (nothing n own ∙ sym (calls-nil n), calls_none n v.seen kept.history seat.seen (nothing n own) ∙ sym (calls-nil n));
             others = λ n away. calls-nil n;
             out = λ first count o. absurd (false≢true (sym (out_nil (range first count)) ∙ o));
+            given = λ r has. absurd (false≢true (sym (ap (λ l. has_range l r) deposits-nil ∙ has-nil r) ∙ has));
             apart = λ n. one_small n v.made;
             below = λ n own. omega (arith, new_owns n own, made_is);
             keeps_made = λ z. absurd (omega (arith, made_is, some_made, z));
@@ -412,6 +416,15 @@ module _ {B : Type 0} where
                 elim given [
                   | inl of_v ↦ seat_a.out first count (out_from v.calls r of_v left.0)
                   | inr of_w ↦ seat_b.out first count (out_from w.calls r of_w left.1)
+                ];
+            given = λ r has.
+                let one = or_cases (has_range (deposits_of v.calls) r) (has_range (deposits_of w.calls) r) (sym (ap (λ l. has_range l r) (deposits-append v.calls w.calls) ∙ has-append (deposits_of v.calls) (deposits_of w.calls) r) ∙ has) in
+                let all : has_range (ranges_of (v.calls ++ w.calls)) r ≡ (has_range (ranges_of v.calls) r || has_range (ranges_of w.calls) r) =
+                ap (λ l. has_range l r) (ranges-append v.calls w.calls) ∙ has-append (ranges_of v.calls) (ranges_of w.calls) r in
+                all
+                ∙ elim one [
+                  | inl of_v ↦ or_left (has_range (ranges_of v.calls) r) (has_range (ranges_of w.calls) r) (seat_a.given r of_v)
+                  | inr of_w ↦ or_right (has_range (ranges_of v.calls) r) (has_range (ranges_of w.calls) r) (seat_b.given r of_w)
                 ];
             apart = λ n. once n;
             below = λ n own. elim (or_cases (owns v n) (owns w n) (sym (both_own n) ∙ own)) [

@@ -46,6 +46,7 @@ module _ {B L : Type 0} (stands : B → List SampleRange → Type 0) (label : B 
     mine = λ n own. (refl, refl);
     others = λ n away. calls-nil n;
     out = λ first count out. absurd (false≢true (sym (none_out (range first count)) ∙ out));
+    given = λ r has. absurd (false≢true (sym (ap (λ l. has_range l r) deposits-nil ∙ has-nil r) ∙ has));
     apart = λ n. one_small n 0;
     below = λ n own. omega (arith, own_zero n own);
     keeps_made = λ z. refl;

@@ -1,6 +1,6 @@
 -- Seats that fit a history, when the history grows or one of them sees more of it.
 use Rattle.std.proofs.Common.{◌≡◌, ℕ, ◌<◌, ◌≤◌, inl, inr, Bool, true, false, ◌||◌, not, List, [], ◌∷◌, ◌++◌, set, refl, ap, sym, ◌∙◌, subst, arith}
-use Rattle.std.proofs.lemmas.Bool.{cases_Bool, cases_eq, eq-eqb, and_parts, or_cases, or_parts, not-true, false≢true, false_from_ne_true}
+use Rattle.std.proofs.lemmas.Bool.{cases_Bool, cases_eq, eq-eqb, and_parts, or_cases, or_left, or_parts, not-true, false≢true, false_from_ne_true}
 use Rattle.std.proofs.lemmas.List.{append-nil}
 use mathlib.Core.Option.{some}
 use lib.ListN.{get_elem?}
@@ -75,6 +75,7 @@ module _ {B : Type 0} where
         let all : has_range (deposits_of h) r ≡ (has_range (deposits_of v.seen) r || has_range (deposits_of seat.seen.0) r) =
         ap (λ l. has_range (deposits_of l) r) (sym seat.seen.1) ∙ (ap (λ l. has_range l r) (deposits-append v.seen seat.seen.0) ∙ has-append (deposits_of v.seen) (deposits_of seat.seen.0) r) in
         (or_parts (has_range (deposits_of v.seen) r) (has_range (deposits_of seat.seen.0) r) (sym all ∙ seat.out first count o)).0;
+    given = seat.given;
     apart = seat.apart;
     below = λ zero_it n own. subst (λ m. n < m) (sym (seat.keeps_made zero_it)) (seat.below n own);
     callers = λ zero_it n le. calls_none n v.seen h seat.seen (unmade n (subst (λ m. m ≤ n) (seat.keeps_made zero_it) le));
@@ -123,6 +124,7 @@ module _ {B : Type 0} where
     mine = λ n own. let m = seat.mine n own in (m.0, m.0);
     others = seat.others;
     out = seat.out;
+    given = seat.given;
     apart = seat.apart;
     below = seat.below;
     keeps_made = seat.keeps_made;
@@ -176,6 +178,7 @@ module _ {B : Type 0} where
               let before = seat.out first count ou in
               let new : has_range (deposit_in e.call) r ≡ false = false_from_ne_true (has_range (deposit_in e.call) r) (not_theirs j u at ne alive r (out_parts u.calls r ou).0) in
               deposits_now r ∙ rw (before, new) refl;
+          given = seat.given;
           apart = seat.apart;
           below = seat.below;
           keeps_made = seat.keeps_made;
@@ -218,6 +221,14 @@ module _ {B : Type 0} where
                 | inr new ↦ fresh_range r new
               ] in
               deposits_now r ∙ rw (before, kept.1) refl;
+          given = λ r has.
+              let one = or_cases (has_range (deposits_of v.calls) r) (has_range (deposit_in e.call) r) (sym (ap (λ l. has_range l r) (deposits_push v.calls e) ∙ has-append (deposits_of v.calls) (deposit_in e.call) r) ∙ has) in
+              let old : has_range (ranges_of v.calls) r ≡ true =
+              elim one [
+                | inl earlier ↦ seat.given r earlier
+                | inr new ↦ (out_parts v.calls r (own_out r.first r.count (deposit_case e.call r new))).0
+              ] in
+              ap (λ l. has_range l r) (ranges_push v.calls e) ∙ (has-append (ranges_of v.calls) (range_in e.reply) r ∙ or_left (has_range (ranges_of v.calls) r) (has_range (range_in e.reply) r) old);
           apart = seat.apart;
           below = seat.below;
           keeps_made = seat.keeps_made;

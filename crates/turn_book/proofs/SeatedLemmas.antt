@@ -12,9 +12,9 @@ use Rattle.turn_book.specs.Words.{gate_word, turn_word, IsGate}
 use Rattle.turn_book.specs.Steps.{Carrier, Found, Took}
 use Rattle.atomic_table.specs.Table.{Step, rest}
 use mathlib.Core.List.{IsPrefix}
-use Rattle.campaign_core.specs.Ranges.{range}
+use Rattle.campaign_core.specs.Ranges.{range, has_range}
 use Rattle.campaign_core.proofs.WithoutLaws.{has-nil, has-without}
-use Rattle.campaign_core.proofs.HistoryLaws.{ranges-nil, calls-nil, prefix_self}
+use Rattle.campaign_core.proofs.HistoryLaws.{ranges-nil, deposits-nil, calls-nil, prefix_self}
 use Rattle.turn_book.proofs.SeatLemmas.{owns_self}
 use Rattle.turn_book.proofs.JoinLemmas.{one_small}
 use Rattle.ra_base.specs.declared.limits.TheConstants.{MOST_SAMPLES}
@@ -144,6 +144,7 @@ sound_newcomer v sound opening some_made =
       mine = λ n h. let e = own n h in sound.callers opening n (omega arith) ∙ sym (calls-nil n);
       others = λ n h. calls-nil n;
       out = λ first count h. absurd (false≢true (sym (has-without (deposits_of []) (ranges_of []) (range first count) ∙ rw (ranges-nil, has-nil (range first count)) refl) ∙ h));
+      given = λ r h. absurd (false≢true (sym (ap (λ l. has_range l r) deposits-nil ∙ has-nil r) ∙ h));
       apart = λ n. one_small n v.made;
       below = λ z. absurd (omega arith);
       callers = λ z. absurd (omega arith);

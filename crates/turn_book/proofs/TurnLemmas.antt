@@ -177,6 +177,7 @@ module _ {B : Type 0} where
                   mine = seat.mine;
                   others = seat.others;
                   out = seat.out;
+                  given = seat.given;
                   apart = seat.apart;
                   below = seat.below;
                   keeps_made = seat.keeps_made;

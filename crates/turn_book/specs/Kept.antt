@@ -8,7 +8,7 @@ use Rattle.ra_base.specs.declared.limits.TheConstants.{MOST_SAMPLES, MOST_BLOCK}
 use Rattle.campaign_core.specs.declared.run.SampleRange.{SampleRange}
 use Rattle.campaign_core.specs.declared.call.Entry.{Entry}
 use Rattle.campaign_core.specs.Ranges.{range, has_range}
-use Rattle.campaign_core.specs.History.{gate_of, deposits_of, out_of, calls_of, IsLegal}
+use Rattle.campaign_core.specs.History.{gate_of, ranges_of, deposits_of, out_of, calls_of, IsLegal}
 use Rattle.turn_book.specs.declared.view.View.{View}
 use Rattle.turn_book.specs.declared.view.Opening.{Opening}
 use Rattle.turn_book.specs.Words.{gate_word, turn_word}
@@ -27,6 +27,8 @@ module _ {B : Type 0} where
     pub others : (n : ℕ) → owns v n ≡ false → calls_of n v.calls ≡ []
     pub out : (first count : ℕ) → has_range (out_of v.calls) (range first count) ≡ true
         → has_range (deposits_of h) (range first count) ≡ false
+    pub given : (r : SampleRange) → has_range (deposits_of v.calls) r ≡ true
+        → has_range (ranges_of v.calls) r ≡ true
     pub apart : (n : ℕ) → how_often n (numbers_of v) ≤ 1
     pub below : (n : ℕ) → owns v n ≡ true → n < made
     pub keeps_made : v.number ≡ 0 → v.made ≡ made

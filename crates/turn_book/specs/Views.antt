@@ -4,6 +4,7 @@ use Rattle.std.specs.List.{list_any}
 use mathlib.Core.List.{IsPrefix}
 use Rattle.ra_base.specs.declared.limits.TheConstants.{MOST_SAMPLES, MOST_BLOCK}
 use Rattle.campaign_core.specs.declared.gate.Gate.{Gate}
+use Rattle.campaign_core.specs.declared.run.SampleRange.{SampleRange}
 use Rattle.campaign_core.specs.declared.call.Call.{Call}
 use Rattle.campaign_core.specs.declared.call.Call.TheVariants.{Claim, Extend, Seal, Cancel, Deposit}
 use Rattle.campaign_core.specs.declared.call.Call.TheVariants.{Progress as AskProgress, Interim as AskInterim}
@@ -11,7 +12,7 @@ use Rattle.campaign_core.specs.declared.call.Reply.{Reply}
 use Rattle.campaign_core.specs.declared.call.Reply.TheVariants.{Range, Now}
 use Rattle.campaign_core.specs.declared.call.Entry.{Entry}
 use Rattle.campaign_core.specs.Ranges.{range, has_range}
-use Rattle.campaign_core.specs.History.{entry, reply_of, gate_of, deposits_of, out_of, calls_of, IsLegal}
+use Rattle.campaign_core.specs.History.{entry, reply_of, gate_of, ranges_of, deposits_of, out_of, calls_of, IsLegal}
 use Rattle.campaign_core.specs.Machine.{gate_after}
 use Rattle.turn_book.specs.declared.view.View.{View}
 use Rattle.turn_book.specs.Words.{IsGate}
@@ -198,8 +199,9 @@ module _ {B : Type 0} where
     pub calls : v.calls ≡ []
 
   -- a view is sound: its history is legal; the entries of its numbers in it are its own calls, each once; a
-  -- range that is out among its own calls isn't deposited there; its numbers differ; and of the opening seat,
-  -- each number below the number made, and no other, may be in the history
+  -- range that is out among its own calls isn't deposited there; what it deposited was given to it; its
+  -- numbers differ; and of the opening seat, each number below the number made, and no other, may be in the
+  -- history
   pub record IsSound (v : View B) : Type 0 where
     pub target : (1 ≤ v.target) × (v.target ≤ MOST_SAMPLES)
     pub block : (1 ≤ v.block) × (v.block ≤ MOST_BLOCK)
@@ -208,6 +210,8 @@ module _ {B : Type 0} where
     pub others : (n : ℕ) → owns v n ≡ false → calls_of n v.calls ≡ []
     pub out : (first count : ℕ) → has_range (out_of v.calls) (range first count) ≡ true
         → has_range (deposits_of v.seen) (range first count) ≡ false
+    pub given : (r : SampleRange) → has_range (deposits_of v.calls) r ≡ true
+        → has_range (ranges_of v.calls) r ≡ true
     pub apart : (n : ℕ) → how_often n (numbers_of v) ≤ 1
     pub below : v.number ≡ 0 → (n : ℕ) → owns v n ≡ true → n < v.made
     pub callers : v.number ≡ 0 → (n : ℕ) → v.made ≤ n → calls_of n v.seen ≡ []
