@@ -45,12 +45,12 @@ more_runs : (system : SystemParts) (seed : ℕ) (runs : List (List HourOutcome))
 more_runs system seed runs run are only least =
     let size : length (runs ++ run ∷ []) ≡ length runs + 1 = length-append runs (run ∷ []) in
     let at : (sample : ℕ) → sample < length (runs ++ run ∷ []) → (P : ℕ → List HourOutcome → Type 0) → ((k : ℕ) → k < length runs → P k (slice_index_or runs k [])) → P (length runs) run → P sample (slice_index_or (runs ++ run ∷ []) sample []) =
-        λ sample below P old new. ⊎_elim
-            (λ (h : sample < length runs). subst (P sample) (sym (get_or-append runs (run ∷ []) [] sample h)) (old sample h))
-            (λ (h : length runs ≤ sample).
-                let here : length runs ≡ sample = omega (arith, size, below, h) in
-                subst (λ k. P k (slice_index_or (runs ++ run ∷ []) k [])) here (subst (P (length runs)) (sym (get_or-append_seam runs run [] [])) new))
-            (cases_lt sample (length runs)) in
+    λ sample below P old new. ⊎_elim
+    (λ (h : sample < length runs). subst (P sample) (sym (get_or-append runs (run ∷ []) [] sample h)) (old sample h))
+    (λ (h : length runs ≤ sample).
+    let here : length runs ≡ sample = omega (arith, size, below, h) in
+    subst (λ k. P k (slice_index_or (runs ++ run ∷ []) k [])) here (subst (P (length runs)) (sym (get_or-append_seam runs run [] [])) new))
+    (cases_lt sample (length runs)) in
     record {
       only = λ sample below. at sample below (IsOnlyRun system seed) are.only only;
       least = λ sample below. at sample below (IsLeast system seed) are.least least;
@@ -112,10 +112,10 @@ IsUnderWay-ran system terms samples simulation simulation' sheet sheet' figures 
     let zones : length sheet.zones ≡ zone_count system = IsUnderWay-zones system terms samples (samples + 1) simulation sheet way in
     let here : HasFigures system terms.seed samples figures = subst (λ (s : SystemParts). HasFigures s terms.seed samples figures) way.same_system (subst (λ (k : ℕ). HasFigures simulation.system k samples figures) way.same_seed has) in
     let hours : (run : List HourOutcome) → IsRun system terms.seed samples run → IsLeast system terms.seed samples run =
-        subst (λ (s : SystemParts). (run : List HourOutcome) → IsRun s terms.seed samples run → IsLeast s terms.seed samples run) way.same_system
-        (subst (λ (k : ℕ). (run : List HourOutcome) → IsRun simulation.system k samples run → IsLeast simulation.system k samples run) way.same_seed least) in
+    subst (λ (s : SystemParts). (run : List HourOutcome) → IsRun s terms.seed samples run → IsLeast s terms.seed samples run) way.same_system
+    (subst (λ (k : ℕ). (run : List HourOutcome) → IsRun simulation.system k samples run → IsLeast simulation.system k samples run) way.same_seed least) in
     let grows : (runs : List (List HourOutcome)) (run : List HourOutcome) → sheet ≡ totals_of (zone_count system) runs → figures ≡ figures_of (zone_count system) run → sheet' ≡ totals_of (zone_count system) (runs ++ run ∷ []) =
-        subst (λ (z : ℕ). (runs : List (List HourOutcome)) (run : List HourOutcome) → sheet ≡ totals_of z runs → figures ≡ figures_of z run → sheet' ≡ totals_of z (runs ++ run ∷ [])) zones adds in
+    subst (λ (z : ℕ). (runs : List (List HourOutcome)) (run : List HourOutcome) → sheet ≡ totals_of z runs → figures ≡ figures_of z run → sheet' ≡ totals_of z (runs ++ run ∷ [])) zones adds in
     IsUnderWay-more system terms samples simulation simulation' sheet sheet' here.0 way same here.1 (hours here.0 here.1.is_run)
     (λ runs is. grows runs here.0 is here.2)
 
@@ -150,10 +150,10 @@ IsUnderWay-passed system terms samples simulation sheet way not = record {
   goes_on = λ rounds more below. ⊎_elim
       (λ (h : terms.samples * rounds < samples). way.goes_on rounds more h)
       (λ (h : samples ≤ terms.samples * rounds).
-          let here : terms.samples * rounds ≡ samples = omega (arith, h, below) in
-          ap (are_enough (zone_count system) terms.precision way.runs) here
-          ∙ (all_runs (zone_count system) terms.precision way.runs sheet samples way.added way.size
-          ∙ not (multiple terms.samples rounds samples here)))
+      let here : terms.samples * rounds ≡ samples = omega (arith, h, below) in
+      ap (are_enough (zone_count system) terms.precision way.runs) here
+      ∙ (all_runs (zone_count system) terms.precision way.runs sheet samples way.added way.size
+      ∙ not (multiple terms.samples rounds samples here)))
       (cases_lt (terms.samples * rounds) samples);
 }
 
@@ -170,13 +170,16 @@ HasStudied-enough system terms samples simulation sheet way some few whole enoug
       are = way.are;
       end = record {
         stops = ⊎_elim
-            (λ (h : samples < terms.most). inr (omega (arith, way.size, h), record {
-              rounds = samples / terms.samples;
-              some = positive terms.samples (samples / terms.samples) samples some parts;
-              is = way.size ∙ sym parts;
-              passes = ap (are_enough zones terms.precision way.runs) way.size
-                  ∙ (all_runs zones terms.precision way.runs sheet samples way.added way.size ∙ enough);
-            }))
+            (λ (h : samples < terms.most). inr (
+              omega (arith, way.size, h),
+              record {
+                rounds = samples / terms.samples;
+                some = positive terms.samples (samples / terms.samples) samples some parts;
+                is = way.size ∙ sym parts;
+                passes = ap (are_enough zones terms.precision way.runs) way.size
+                    ∙ (all_runs zones terms.precision way.runs sheet samples way.added way.size ∙ enough);
+              },
+            ))
             (λ (h : terms.most ≤ samples). inl (omega (arith, way.size, h, few)))
             (cases_lt samples terms.most);
         goes_on = λ rounds more below. way.goes_on rounds more (omega (arith, below, way.size));

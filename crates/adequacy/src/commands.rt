@@ -36,9 +36,7 @@ pub(crate) fn make_answer(
         Request::Check => make_check_text(alloc, system),
         Request::Table => make_table_text(alloc, system),
         Request::Index => make_index_text(alloc, system),
-        Request::Credit(terms) => {
-            make_credit_text::<Brand>(alloc, Blank::new(1), system, terms)
-        }
+        Request::Credit(terms) => { make_credit_text::<Brand>(alloc, Blank::new(1), system, terms) }
         Request::Study(terms) => make_study_text(alloc, system, terms),
         Request::Trace(_) | Request::Trial { .. } | Request::Console(_) => unreachable!(),
     }

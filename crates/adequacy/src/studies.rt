@@ -32,11 +32,7 @@ pub(crate) fn make_study_text(
 }
 
 // The totals over a study's samples.
-fn study_totals(
-    alloc: Global,
-    system: &System,
-    terms: StudyTerms,
-) -> Result<Totals, OutOfMemory>
+fn study_totals(alloc: Global, system: &System, terms: StudyTerms) -> Result<Totals, OutOfMemory>
     requires some { 1 ≤ terms.samples }
     requires most { terms.most ≤ MOST_SAMPLES }
     requires precision { IfSome terms.precision IsPrecision }
