@@ -1,0 +1,4 @@
+pub mod CheckText
+pub mod FaultText
+pub mod GateText
+pub mod TotalsText
