@@ -3,5 +3,4 @@ pub mod FormLemmas
 pub mod ReportLemmas
 pub mod StoredLemmas
 pub mod StudyLemmas
-pub mod TextLemmas
 pub mod TopLemmas

@@ -8,7 +8,7 @@ use Rattle.capacity_credit.specs.Bracket.{IsBracket, IsCertified}
 use Rattle.index_text.specs.CreditText.{bracket_text}
 use Rattle.index_text.specs.TableText.{table_text}
 use Rattle.index_text.specs.IndexText.{index_text}
-use Rattle.adequacy.specs.CheckText.{check_line}
+use Rattle.report_text.specs.CheckText.{check_line}
 use Rattle.adequacy.specs.LineParts.{LineParts}
 use Rattle.adequacy.specs.StudyText.{IsStudyText}
 use Rattle.adequacy.specs.Words.{line_of}

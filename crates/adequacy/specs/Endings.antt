@@ -9,7 +9,7 @@ use Rattle.ra_base.specs.declared.status.Status.TheVariants as status
 use Rattle.ra_base.specs.declared.table.TableBytes.{TableBytes}
 use Rattle.system_model.specs.System.{SystemParts}
 use Rattle.adequacy.specs.Commands.{IsAnswer}
-use Rattle.adequacy.specs.FaultText.{table_text, fault_line}
+use Rattle.report_text.specs.FaultText.{table_text, fault_line}
 use Rattle.adequacy.specs.Folder.{folder_outcome, no_tables, table_order, HasRead, stored_tables}
 use Rattle.adequacy.specs.LineParts.{LineParts}
 use Rattle.adequacy.specs.Requests.{request_of}

@@ -1,8 +1,6 @@
-pub mod CheckText
 pub mod CommandWords
 pub mod Commands
 pub mod Endings
-pub mod FaultText
 pub mod Folder
 pub mod LineParts
 pub mod Lines
@@ -13,7 +11,6 @@ pub mod Parse
 pub mod Requests
 pub mod Rounds
 pub mod StudyText
-pub mod TotalsText
 pub mod WordFaultText
 pub mod Words
 pub mod WorkedWords

@@ -6,7 +6,7 @@ use Rattle.sample_totals.specs.Estimates.{is_enough}
 use Rattle.sample_totals.specs.Totals.{Sheet, totals_of}
 use Rattle.sample_run.specs.Run.{IsOnlyRun, IsLeast}
 use Rattle.adequacy.specs.Rounds.{IsStudyEnd}
-use Rattle.adequacy.specs.TotalsText.{totals_text}
+use Rattle.report_text.specs.TotalsText.{totals_text}
 use Rattle.adequacy.specs.declared.words.request.StudyTerms.{StudyTerms}
 
 -- whether the first so many of these runs are enough for a precision, by their unserved energy

@@ -7,9 +7,8 @@ ghost use Rattle.index_text.specs.TableText.{table_text};
 ghost use Rattle.index_text.specs.IndexText.{index_text};
 ghost use Rattle.adequacy.specs.Commands.{IsAnswer, check_text, can_answer, is_built as built};
 ghost use Rattle.adequacy.specs.LineParts.{LineParts};
-ghost use Rattle.adequacy.specs.Requests.{AreRequested};
+ghost use Rattle.adequacy.specs.Requests.{IsRequestOf};
 
-use crate::report_text::put_check;
 use crate::studies::make_study_text;
 use crate::words::{Command, CreditTerms, Request};
 use analytic_index::Analysis;
@@ -17,6 +16,7 @@ use capacity_credit::{Steps, credit};
 use index_text::{put_bracket, put_index, put_table};
 use load_model::NetLoad;
 use ra_base::{OutOfMemory, Text};
+use report_text::put_check;
 use std::alloc::Global;
 use std::marker::Brand;
 use std::sync::ledger::{Blank, Ledger};
@@ -29,7 +29,7 @@ pub(crate) fn make_answer(
     request: Request,
 ) -> Result<Text, OutOfMemory>
     requires built { can_answer request ≡ true }
-    requires terms { (line : LineParts) × AreRequested line request }
+    requires terms { (line : LineParts) × IsRequestOf line request }
     ensures { IfOk result (IsAnswer request system.now) }
 {
     match request {

@@ -1,13 +1,13 @@
 //! How a run of the program ends, and the line that it leaves on standard error.
 ghost use Rattle.std.specs.Prelude.{◌≡◌, ◌++◌, codes, IfOk, Err};
 ghost use Rattle.adequacy.specs.Endings.{failure_of, unread_failure, refusal_line, ErrGains, Reports, Tells};
-ghost use Rattle.adequacy.specs.FaultText.{table_text};
+ghost use Rattle.report_text.specs.FaultText.{table_text};
 ghost use Rattle.adequacy.specs.WordFaultText.{word_fault_text};
 
-use crate::report_text::{name_of, put_table_fault};
 use crate::tables::{FolderError, Refusal};
 use crate::words::{WordFault, put_word_fault};
 use ra_base::{OutOfMemory, Sink, Status, TableName, Text};
+use report_text::{name_of, put_table_fault};
 use std::alloc::Global;
 
 /// Why a run ends without its answer.

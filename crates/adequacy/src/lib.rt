@@ -3,7 +3,6 @@
 
 mod commands;
 mod endings;
-pub mod report_text;
 mod studies;
 mod tables;
 mod top;

@@ -4,9 +4,9 @@ ghost use Rattle.ra_base.specs.declared.limits.TheConstants.{MOST_SAMPLES};
 ghost use Rattle.sample_totals.specs.Estimates.{is_enough as enough_samples, IsPrecision};
 ghost use Rattle.adequacy.specs.StudyText.{IsStudyText, HasStudied};
 
-use crate::report_text::put_totals;
 use crate::words::StudyTerms;
 use ra_base::{OutOfMemory, Text};
+use report_text::put_totals;
 use sample_run::Runner;
 use sample_totals::{Part, Totals, enough};
 use std::alloc::Global;

@@ -9,7 +9,7 @@ ghost use Rattle.adequacy.specs.Commands.{asked_line, can_answer, is_built as bu
 ghost use Rattle.adequacy.specs.Endings.{Answers, AnswerGained, Ends, Reports, Tells, HasRun, MayRun, IsAsked, RunsOn, is_shelf_failure, is_sink_failure, may_have_written, says_read_fault, says_write_fault, says_written};
 ghost use Rattle.adequacy.specs.Folder.{no_tables, table_order, HasRead, FolderSpells, IsRefused};
 ghost use Rattle.adequacy.specs.LineParts.{LineParts};
-ghost use Rattle.adequacy.specs.Requests.{AreRequested, request_of};
+ghost use Rattle.adequacy.specs.Requests.{IsRequestOf, request_of};
 ghost use Rattle.adequacy.specs.declared.endings.Failure.{Failure};
 ghost use Rattle.adequacy.specs.declared.tables.FolderError.{FolderError};
 ghost use Rattle.adequacy.specs.declared.tables.Refusal.{Refusal};
@@ -162,7 +162,7 @@ fn answer<O: Sink>(
     out: &mut O,
 ) -> Result<(), Failure>
     requires built { can_answer request ≡ true }
-    requires terms { (line : LineParts) × AreRequested line request }
+    requires terms { (line : LineParts) × IsRequestOf line request }
     ensures answer { Answers request system.now result (O.held out.old) (O.held out.new) }
     ensures read_faults { is_shelf_failure result ≡ false }
     ensures write_faults { Counts (is_sink_failure result) (O.faults out.old) (O.faults out.new) }

@@ -1,8 +1,0 @@
-use Rattle.std.proofs.Common.{◌≡◌, ◌++◌, take}
-use Rattle.std.specs.List.{flat_map}
-use Rattle.adequacy.specs.TotalsText.{cut_line}
-use Rattle.adequacy.proofs.report_text.put_cuts.Given as goal
-
--- what was appended so far
-abbrev pub invariant-loop-row : goal.invariant-loop-row
-invariant-loop-row l = l.out ≡ l.initial.out ++ flat_map (cut_line l.system.zone_names) (take l.row-index l.cuts)

@@ -1,8 +1,0 @@
-use Rattle.std.proofs.Common.{◌≡◌, ◌++◌}
-use Rattle.std.specs.List.{flat_map, range_with_len}
-use Rattle.adequacy.specs.TotalsText.{zone_line}
-use Rattle.adequacy.proofs.report_text.put_zones.Given as goal
-
--- what was appended so far
-abbrev pub invariant-loop-zone : goal.invariant-loop-zone
-invariant-loop-zone l = l.out ≡ l.initial.out ++ flat_map (zone_line l.system.zone_names l.totals) (range_with_len 0 l.zone)
