@@ -1,3 +1,4 @@
+pub mod AskLemmas
 pub mod FolderLemmas
 pub mod FormLemmas
 pub mod ReportLemmas

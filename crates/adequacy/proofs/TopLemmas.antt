@@ -15,10 +15,15 @@ use Rattle.adequacy.specs.declared.tables.FolderError.TheVariants as folder
 use Rattle.adequacy.specs.declared.tables.Refusal.{Refusal}
 use Rattle.adequacy.specs.LineParts.{LineParts}
 use Rattle.adequacy.specs.Requests.{request_of}
+use Rattle.adequacy.specs.declared.words.fault.WordFault.{WordFault}
 use Rattle.adequacy.specs.declared.words.request.Request.{Request}
 use Rattle.adequacy.specs.Folder.{no_tables, table_order, stored_tables, stored_from, folder_outcome, FolderSpells, IsRefused}
-use Rattle.adequacy.specs.Endings.{Ending, AnswerGained, Ends, Tells, HasRun, HasNotRun, MayRun, RunsOn, says_read_fault, says_write_fault}
+use Rattle.adequacy.specs.Endings.{Ending, AnswerGained, Ends, Tells, HasRun, IsAsked, Reports, RunsOn, says_read_fault, says_write_fault}
 use Rattle.adequacy.proofs.StoredLemmas.{IsUnless, told_outcome}
+
+-- words ask for one line
+pub same_line : {asked : Result LineParts WordFault} {a b : LineParts} → asked ≡ Ok a → asked ≡ Ok b → a ≡ b
+same_line is is' = cc
 
 -- where a read failed or memory wasn't found, a run ends so
 fault_ended : (request : Request) (expected : Result TableBytes FolderError) (ending : Ending) (held held' : Option (List ℕ)) → Ends request (Err folder.ReadFault) ending held held' → (ending ≡ Err ReadFault) ⊎ Ends request expected ending held held'
@@ -60,15 +65,17 @@ runs_on contents stored line ends reads reads' counts counts' held held' said sa
     }
 
 -- the same where memory wasn't found before anything was read
-pub may_run_on : (contents : Option Tables) (stored : Tables) (line : LineParts) (ends : Status) (reads reads' : List Reading) (counts counts' : ShelfCounts) (held held' said said' : Option (List ℕ)) (faults faults' : ℕ)
-    → contents ≡ Some stored → MayRun contents line ends reads reads' counts counts' held held' said said' faults faults'
-    → RunsOn stored line ends held held' said said' faults faults'
-may_run_on contents stored line ends reads reads' counts counts' held held' said said' f f' told (inl run) =
-    runs_on contents stored line ends reads reads' counts counts' held held' said said' f f' told run
-may_run_on contents stored line ends reads reads' counts counts' held held' said said' f f' told (inr none) = record {
+pub failed_on : (asked : Result LineParts WordFault) (stored : Tables) (line : LineParts) (failure : Failure) (ends : Status) (held said said' : Option (List ℕ)) (faults faults' : ℕ)
+    → IsAsked asked (Err failure) → asked ≡ Ok line → Reports failure ends said said' faults faults'
+    → RunsOn stored line ends held held said said' faults faults'
+failed_on asked stored line (Words fault) ends held said said' f f' is asks told = absurd (cc)
+failed_on asked stored line (Refused refusal) ends held said said' f f' is asks told = absurd is
+failed_on asked stored line ReadFault ends held said said' f f' is asks told = absurd is
+failed_on asked stored line WriteFault ends held said said' f f' is asks told = absurd is
+failed_on asked stored line OutOfMemory ends held said said' f f' is asks told = record {
   ending = Err OutOfMemory;
-  ended = inr none.written;
-  told = none.told;
+  ended = inr refl;
+  told = told;
 }
 
 -- no fault was counted, so none is answered

@@ -24,6 +24,8 @@ use Rattle.adequacy.specs.declared.tables.Refusal.{Refusal}
 use Rattle.adequacy.specs.declared.tables.Refusal.TheVariants.{Missing, TooLong, Fault}
 use Rattle.adequacy.specs.declared.words.fault.WordFault.{WordFault}
 use Rattle.adequacy.specs.declared.words.fault.WordFault.TheVariants.{Usage}
+use Rattle.adequacy.specs.declared.words.fault.WordsError.{WordsError}
+use Rattle.adequacy.specs.declared.words.fault.WordsError.TheVariants as words
 use Rattle.adequacy.specs.declared.words.request.Request.{Request}
 
 -- a run answers, or fails
@@ -35,6 +37,11 @@ abbrev pub failure_of : FolderError → Failure
 failure_of (folder.Refused refusal) = Refused refusal
 failure_of folder.ReadFault = ReadFault
 failure_of folder.OutOfMemory = OutOfMemory
+
+-- the failure of a run whose words give no line
+abbrev pub failure_of_words : WordsError → Failure
+failure_of_words (words.Words fault) = Words fault
+failure_of_words words.OutOfMemory = OutOfMemory
 
 -- the failure of a run that has no words to read
 abbrev pub unread_failure : Unread → Failure

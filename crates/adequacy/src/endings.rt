@@ -1,11 +1,11 @@
 //! How a run of the program ends, and the line that it leaves on standard error.
 ghost use Rattle.std.specs.Prelude.{◌≡◌, ◌++◌, codes, IfOk, Err};
-ghost use Rattle.adequacy.specs.Endings.{failure_of, unread_failure, refusal_line, ErrGains, Reports, Tells};
+ghost use Rattle.adequacy.specs.Endings.{failure_of, failure_of_words, unread_failure, refusal_line, ErrGains, Reports, Tells};
 ghost use Rattle.report_text.specs.FaultText.{table_text};
 ghost use Rattle.adequacy.specs.WordFaultText.{word_fault_text};
 
 use crate::tables::{FolderError, Refusal};
-use crate::words::{WordFault, put_word_fault};
+use crate::words::{WordFault, WordsError, put_word_fault};
 use ra_base::{OutOfMemory, Sink, Status, TableName, Text};
 use report_text::{name_of, put_table_fault};
 use std::alloc::Global;
@@ -32,6 +32,16 @@ pub enum Unread {
     NotText,
     /// Memory wasn't found.
     OutOfMemory,
+}
+
+/// The failure of a run whose words give no line.
+pub(crate) fn words_failure(error: WordsError) -> Failure
+    ensures { result ≡ failure_of_words error }
+{
+    match error {
+        WordsError::Words(fault) => Failure::Words(fault),
+        WordsError::OutOfMemory => Failure::OutOfMemory,
+    }
 }
 
 /// The failure of a run whose folder gives no system.

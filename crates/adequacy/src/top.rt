@@ -1,5 +1,5 @@
 //! The top call: from the words of the command line to the bytes of the answer.
-ghost use Rattle.std.specs.Prelude.{◌≡◌, ◌⊎◌, Some, Ok, Err, Result, map, true, false};
+ghost use Rattle.std.specs.Prelude.{◌≡◌, ◌⊎◌, Some, Ok, Err, IfOk, Result, map, true, false};
 ghost use Rattle.std.specs.String.{string_bytes};
 ghost use Rattle.ra_base.specs.Causes.{Counts, Rose};
 ghost use Rattle.ra_base.specs.Outside.{Tables};
@@ -16,9 +16,9 @@ ghost use Rattle.adequacy.specs.declared.tables.Refusal.{Refusal};
 ghost use Rattle.adequacy.specs.declared.words.fault.WordFault.{WordFault};
 
 use crate::commands::{is_built, make_answer};
-use crate::endings::{Failure, folder_failure, report};
+use crate::endings::{Failure, folder_failure, report, words_failure};
 use crate::tables::read_folder;
-use crate::words::{Line, Request, WordFault, WordsError, read_words};
+use crate::words::{Line, Request, WordFault, read_words};
 use ra_base::{Shelf, Sink, Status};
 use std::alloc::Global;
 use system_model::System;
@@ -93,14 +93,17 @@ pub fn adequacy<S: Shelf, O: Sink, E: Sink>(
 
 // The line of the words, of a command that is built.
 fn ask(alloc: Global, words: &[String]) -> Result<Line, Failure>
-    ensures { IsAsked (asked_line (map string_bytes words.now)) result }
+    ensures asked { IsAsked (asked_line (map string_bytes words.now)) result }
+    ensures built { IfOk result (λ line. built line.command ≡ true) }
 {
-    match read_words(alloc, words) {
-        Ok(line) if is_built(line.command) => Ok(line),
-        Ok(_) => Err(Failure::Words(WordFault::NoCommand)),
-        Err(WordsError::Words(fault)) => Err(Failure::Words(fault)),
-        Err(WordsError::OutOfMemory) => Err(Failure::OutOfMemory),
+    let line = match read_words(alloc, words) {
+        Ok(line) => line,
+        Err(error) => return Err(words_failure(error)),
+    };
+    if !is_built(line.command) {
+        return Err(Failure::Words(WordFault::NoCommand));
     }
+    Ok(line)
 }
 
 // Runs a line, and tells how it ended.
