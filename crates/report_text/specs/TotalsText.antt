@@ -1,5 +1,5 @@
 -- The text of a study's totals, line by line. 10 is the line feed, 43 is `+`, 63 is `?`.
-use Rattle.std.specs.Prelude.{ℕ, ◌/◌, ◌%◌, ◌^◌, ◌==◌, ◌||◌, Bool, nat_lt, List, [], ◌∷◌, ◌++◌, length, map, filter, codes, Option, None, Some, slice_index_or, if◌then◌else◌}
+use Rattle.std.specs.Prelude.{ℕ, ◌==◌, ◌||◌, nat_lt, List, [], ◌∷◌, ◌++◌, length, map, filter, codes, Option, None, Some, slice_index_or, if◌then◌else◌}
 use Rattle.std.specs.List.{range_with_len, flat_map, join_by}
 use Rattle.zone_network.specs.Sums.{inside}
 use Rattle.decimal_text.specs.DecimalText.{whole_text, fixed_text}

@@ -7,6 +7,8 @@ mod plain;
 mod refusing_plain;
 mod shortfall;
 mod storage_level;
+#[cfg(test)]
+mod tests;
 
 pub use binding_cut::BindingCut;
 pub use plain::Plain;
