@@ -1,8 +1,9 @@
 use Rattle.std.proofs.Common.{◌≡◌, ℕ, zero, suc, ◌+◌, ◌-◌, ◌*◌, ◌/◌, ◌<◌, ◌≤◌, Bool, true, false, leb, Some, None, sym, ap, ◌∙◌, arith, ⊎_elim}
 use Rattle.std.proofs.lemmas.Bool.{cases_eq, cases_lt, le-leb, lt-leb, eq-eqb, ne_eqb, cond-true, cond-false}
 use Rattle.std.proofs.lemmas.Nat.{mul-le, le-div, div-add-mod'}
+use Rattle.ra_base.specs.declared.limits.TheConstants.{MOST_SAMPLES}
 use Rattle.sample_totals.specs.declared.estimates.Sums.{Sums}
-use Rattle.sample_totals.specs.Estimates.{AreSums, greatest_up_to, spread_of, weight_of, error_of, IsGreatestWithin}
+use Rattle.sample_totals.specs.Estimates.{AreSums, FitBoth, greatest_up_to, spread_of, weight_of, error_of, IsGreatestWithin}
 
 -- squares are in the order of their roots
 root-le : (a b : ℕ) → a * a < (b + 1) * (b + 1) → a ≤ b
@@ -84,3 +85,24 @@ AreSums-more sums n x are small = record {
 
 pub AreSums-none : AreSums (record { total = 0; squares = 0 }) 0
 AreSums-none = record { total = omega arith; squares = omega arith; spread = omega arith }
+
+-- ---- sums of two lots
+pub AreSums-joined : (sums more : Sums) (n m : ℕ) → AreSums sums n → AreSums more m → AreSums (record { total = sums.total + more.total; squares = sums.squares + more.squares }) (n + m)
+AreSums-joined sums more n m are more_are = record {
+  total = omega (arith, are.total, more_are.total);
+  squares = omega (arith, are.squares, more_are.squares);
+  spread = spread-joined n m sums.total more.total sums.squares more.squares are.spread more_are.spread;
+}
+  where
+    spread-joined : (a b s t q r : ℕ) → s * s ≤ a * q → t * t ≤ b * r → (s + t) * (s + t) ≤ (a + b) * (q + r)
+    spread-joined a b s t q r h k =
+        let twice : 2 * s * t ≤ a * r + b * q = sq-le (2 * s * t) (a * r + b * q) (
+        let below : (s * s) * (t * t) ≤ (a * q) * (b * r) = mul-le (s * s) (t * t) (a * q) (b * r) h k in
+        omega (arith, four (a * r) (b * q), below)) in
+        omega (arith, twice, h, k)
+
+pub FitBoth-sums : (sums more : Sums) (n m : ℕ) → AreSums sums n → AreSums more m → n + m ≤ MOST_SAMPLES → FitBoth sums more
+FitBoth-sums sums more n m are more_are few = record {
+  total = omega (arith, are.total, more_are.total);
+  squares = omega (arith, are.squares, more_are.squares);
+}

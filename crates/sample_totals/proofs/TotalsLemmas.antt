@@ -2,24 +2,24 @@ use Rattle.std.proofs.Common.{◌≡◌, ℕ, zero, suc, ◌+◌, ◌-◌, ◌*�
 use Rattle.std.specs.Prelude.{map, sum_by}
 use Rattle.std.specs.List.{range_with_len}
 use Rattle.std.proofs.lemmas.List.{length-append, get_or_past, length-replicate}
-use Rattle.std.proofs.lemmas.List.Sums.{sum_by_push, sum_by-cons}
+use Rattle.std.proofs.lemmas.List.Sums.{sum_by_push, sum_by-cons, sum_by-append}
 use Rattle.std.proofs.lemmas.List.FromFn.{fill_by_all, get_or-map-range_with_len, length-map-range_with_len}
 use Rattle.std.proofs.lemmas.Bool.{cases_lt}
 use Rattle.sample_totals.specs.declared.outcomes.HourOutcome.{HourOutcome}
 use Rattle.sample_totals.specs.declared.cut_rows.CutRow.{CutRow}
 use Rattle.sample_totals.specs.declared.estimates.Sums.{Sums}
 use Rattle.sample_totals.specs.CutRows.{rows_of, hours_at, cut_unserved, AreRows, AddsRows, masks}
-use Rattle.sample_totals.specs.Estimates.{AreSums, no_sums, with_value}
+use Rattle.sample_totals.specs.Estimates.{AreSums, no_sums, with_value, joined_sums}
 use Rattle.sample_totals.specs.Results.{short_hours, short_days, short_events, unserved_energy, zone_energy, cut_hours, cut_energy, Figures, figures_of}
-use Rattle.sample_totals.specs.Totals.{Sheet, sums_of, totals_of, IsSheet}
+use Rattle.sample_totals.specs.Totals.{Sheet, sums_of, totals_of, IsSheet, AddsTotals}
 use Rattle.sample_totals.proofs.CutRowsLemmas.{rows_are, hours_at-none, cut_unserved-none, AreRows-rows_of, hours_at-rows_of, cut_unserved-rows_of}
-use Rattle.sample_totals.proofs.EstimatesLemmas.{AreSums-more, AreSums-none}
+use Rattle.sample_totals.proofs.EstimatesLemmas.{AreSums-more, AreSums-none, AreSums-joined}
 use Rattle.sample_totals.proofs.ResultsLemmas.{cut_energy-none}
 
 abbrev pub sheet : ℕ → Sums → Sums → Sums → Sums → List Sums → List CutRow → Sheet
 sheet samples hours days events unserved zones cuts = record { samples = samples; hours = hours; days = days; events = events; unserved = unserved; zones = zones; cuts = cuts }
 
-same_sheet : (t t' : Sheet) → t.samples ≡ t'.samples → t.hours ≡ t'.hours → t.days ≡ t'.days → t.events ≡ t'.events → t.unserved ≡ t'.unserved → t.zones ≡ t'.zones → t.cuts ≡ t'.cuts → t ≡ t'
+pub same_sheet : (t t' : Sheet) → t.samples ≡ t'.samples → t.hours ≡ t'.hours → t.days ≡ t'.days → t.events ≡ t'.events → t.unserved ≡ t'.unserved → t.zones ≡ t'.zones → t.cuts ≡ t'.cuts → t ≡ t'
 same_sheet t t' a b c d e f g =
     ap (λ x. sheet x t.hours t.days t.events t.unserved t.zones t.cuts) a
     ∙ ap (λ x. sheet t'.samples x t.days t.events t.unserved t.zones t.cuts) b
@@ -29,7 +29,7 @@ same_sheet t t' a b c d e f g =
     ∙ ap (λ x. sheet t'.samples t'.hours t'.days t'.events t'.unserved x t.cuts) f
     ∙ ap (λ x. sheet t'.samples t'.hours t'.days t'.events t'.unserved t'.zones x) g
 
-same_sums : (s t : Sums) → s.total ≡ t.total → s.squares ≡ t.squares → s ≡ t
+pub same_sums : (s t : Sums) → s.total ≡ t.total → s.squares ≡ t.squares → s ≡ t
 same_sums s t a b = ap (λ x. record { total = x; squares = s.squares }) a ∙ ap (λ x. record { total = t.total; squares = x }) b
 
 -- ---- no sample
@@ -76,7 +76,7 @@ sums-more : (figure : List HourOutcome → ℕ) (runs : List (List HourOutcome))
 unfolding sums_of
 sums-more figure runs run = same_sums (with_value (sums_of figure runs) (figure run)) (sums_of figure (runs ++ run ∷ [])) (sym (sum_by_push figure runs run)) (sym (sum_by_push (λ r. figure r * figure r) runs run))
 
-energy-none : (runs : List (List HourOutcome)) (m : ℕ) → sum_by (λ run. cut_hours run m) runs ≡ 0 → sum_by (λ run. cut_energy run m) runs ≡ 0
+pub energy-none : (runs : List (List HourOutcome)) (m : ℕ) → sum_by (λ run. cut_hours run m) runs ≡ 0 → sum_by (λ run. cut_energy run m) runs ≡ 0
 energy-none [] m h = refl
 energy-none (run ∷ runs) m h =
     let hs = sum_by-cons (λ (r : List HourOutcome). cut_hours r m) run runs in
@@ -148,4 +148,69 @@ IsSheet-more t hours days events unserved values cuts zs rows is few h d e u vs 
       rows = rw more_zones.len (added.ascending 1 (2 ^ length t.zones) is.rows in_order);
       row_hours = λ m. omega (arith, added.hours m, is.row_hours m, hs m);
       row_unserved = λ m. omega (arith, added.unserved m, is.row_unserved m, us m);
+    }
+
+-- ---- two totals
+sums-joined : (figure : List HourOutcome → ℕ) (runs more : List (List HourOutcome)) → joined_sums (sums_of figure runs) (sums_of figure more) ≡ sums_of figure (runs ++ more)
+unfolding sums_of
+sums-joined figure runs more = same_sums (joined_sums (sums_of figure runs) (sums_of figure more)) (sums_of figure (runs ++ more)) (sym (sum_by-append figure runs more)) (sym (sum_by-append (λ r. figure r * figure r) runs more))
+
+-- totals of runs that gained those of more runs are those of both
+pub totals-joined : (zones : ℕ) (runs more : List (List HourOutcome)) (t : Sheet) → AddsTotals (totals_of zones runs) (totals_of zones more) t → t ≡ totals_of zones (runs ++ more)
+unfolding totals_of
+totals-joined zones runs more t adds =
+    let both = runs ++ more in
+    let old = totals_of zones runs in
+    let count = λ (rs : List (List HourOutcome)) (m : ℕ). sum_by (λ (r : List HourOutcome). cut_hours r m) rs in
+    let energy = λ (rs : List (List HourOutcome)) (m : ℕ). sum_by (λ (r : List HourOutcome). cut_energy r m) rs in
+    let long : length old.zones ≡ zones = length-map-range_with_len (λ zone. sums_of (λ r. zone_energy r zone) runs) 0 zones in
+    let zone_at : (k : ℕ) → k < zones → get_or t.zones k no_sums ≡ sums_of (λ r. zone_energy r k) both = λ k l.
+    let was = get_or-map-range_with_len (λ zone. sums_of (λ r. zone_energy r zone) runs) 0 zones k k no_sums l (omega arith) in
+    let gained = get_or-map-range_with_len (λ zone. sums_of (λ r. zone_energy r zone) more) 0 zones k k no_sums l (omega arith) in
+    adds.zones k (omega (arith, long)) ∙ ap (λ s. joined_sums s (get_or (totals_of zones more).zones k no_sums)) was ∙ ap (λ s. joined_sums (sums_of (λ r. zone_energy r k) runs) s) gained ∙ sums-joined (λ r. zone_energy r k) runs more in
+    same_sheet t (totals_of zones both)
+    (adds.samples ∙ sym (length-append runs more))
+    (adds.hours ∙ sums-joined short_hours runs more)
+    (adds.days ∙ sums-joined short_days runs more)
+    (adds.events ∙ sums-joined short_events runs more)
+    (adds.unserved ∙ sums-joined unserved_energy runs more)
+    (fill_by_all (λ zone. sums_of (λ r. zone_energy r zone) both) t.zones zones no_sums (adds.zone_count ∙ long) zone_at)
+    (rows_are (count both) (energy both) 1 (2 ^ zones - 1) t.cuts
+    (adds.cuts.ascending 1 (1 + (2 ^ zones - 1)) (AreRows-rows_of (count runs) (energy runs) 1 (2 ^ zones - 1)) (AreRows-rows_of (count more) (energy more) 1 (2 ^ zones - 1)))
+    (λ m g l. omega (
+      arith,
+      adds.cuts.hours m,
+      hours_at-rows_of (count runs) (energy runs) 1 (2 ^ zones - 1) m g l,
+      hours_at-rows_of (count more) (energy more) 1 (2 ^ zones - 1) m g l,
+      sum_by-append (λ (r : List HourOutcome). cut_hours r m) runs more,
+    ))
+    (λ m g l. omega (
+      arith,
+      adds.cuts.unserved m,
+      cut_unserved-rows_of (count runs) (energy runs) 1 (2 ^ zones - 1) m g l (energy-none runs m),
+      cut_unserved-rows_of (count more) (energy more) 1 (2 ^ zones - 1) m g l (energy-none more m),
+      sum_by-append (λ (r : List HourOutcome). cut_energy r m) runs more,
+    )))
+
+joined-are : (sums more new : Sums) (n m k : ℕ) → AreSums sums n → AreSums more m → new ≡ joined_sums sums more → k ≡ n + m → AreSums new k
+joined-are sums more new n m k are more_are e f = rw (e, f) (AreSums-joined sums more n m are more_are)
+
+pub IsSheet-joined : (old more new : Sheet) → IsSheet old → IsSheet more → old.samples + more.samples ≤ 1000000 → length old.zones ≡ length more.zones → AddsTotals old more new → IsSheet new
+IsSheet-joined old more new is more_is few agree adds =
+    let zone_is : (z : ℕ) → AreSums (get_or new.zones z no_sums) new.samples = λ z.
+    ⊎_elim
+    (λ (l : z < length old.zones). joined-are (get_or old.zones z no_sums) (get_or more.zones z no_sums) (get_or new.zones z no_sums) old.samples more.samples new.samples (is.zones z) (more_is.zones z) (adds.zones z l) adds.samples)
+    (λ (g : length old.zones ≤ z). rw (get_or_past new.zones z no_sums (omega (arith, adds.zone_count))) (AreSums-no new.samples))
+    (cases_lt z (length old.zones)) in
+    record {
+      samples = omega (arith, adds.samples);
+      hours = joined-are old.hours more.hours new.hours old.samples more.samples new.samples is.hours more_is.hours adds.hours adds.samples;
+      days = joined-are old.days more.days new.days old.samples more.samples new.samples is.days more_is.days adds.days adds.samples;
+      events = joined-are old.events more.events new.events old.samples more.samples new.samples is.events more_is.events adds.events adds.samples;
+      unserved = joined-are old.unserved more.unserved new.unserved old.samples more.samples new.samples is.unserved more_is.unserved adds.unserved adds.samples;
+      few_zones = omega (arith, is.few_zones, adds.zone_count);
+      zones = zone_is;
+      rows = rw adds.zone_count (adds.cuts.ascending 1 (2 ^ length old.zones) is.rows (rw (sym agree) at more_is.rows));
+      row_hours = λ m. omega (arith, adds.cuts.hours m, is.row_hours m, more_is.row_hours m, adds.samples);
+      row_unserved = λ m. omega (arith, adds.cuts.unserved m, is.row_unserved m, more_is.row_unserved m, adds.samples);
     }

@@ -1,5 +1,5 @@
 -- Mean and standard error of a sum over samples, in thousandths.
-use Rattle.std.specs.Prelude.{ℕ, zero, suc, ◌+◌, ◌-◌, ◌*◌, ◌/◌, ◌^◌, ◌≤◌, ◌==◌, Bool, nat_le, Option, None, Some, if◌then◌else◌}
+use Rattle.std.specs.Prelude.{ℕ, zero, suc, ◌+◌, ◌-◌, ◌*◌, ◌/◌, ◌^◌, ◌<◌, ◌≤◌, ◌==◌, ◌&&◌, Bool, true, nat_le, Option, None, Some, if◌then◌else◌}
 use Rattle.sample_totals.specs.declared.results.TheConstants.{MOST_UNSERVED}
 use Rattle.sample_totals.specs.declared.estimates.Sums.{Sums}
 
@@ -22,6 +22,15 @@ with_value sums value = record { total = sums.total + value; squares = sums.squa
 pub record FitsMore (sums : Sums) : Type 0 where
   pub total : sums.total ≤ 2 ^ 127
   pub squares : sums.squares ≤ 2 ^ 127
+
+-- the sums of two lots of values together
+abbrev pub joined_sums : Sums → Sums → Sums
+joined_sums sums more = record { total = sums.total + more.total; squares = sums.squares + more.squares }
+
+-- two sums have room for each other in 128 bits
+pub record FitBoth (sums more : Sums) : Type 0 where
+  pub total : sums.total + more.total < 2 ^ 128
+  pub squares : sums.squares + more.squares < 2 ^ 128
 
 -- the mean in thousandths, rounded down
 abbrev pub mean_of : Sums → ℕ → ℕ
@@ -54,3 +63,14 @@ error_of sums samples =
 pub record IsGreatestWithin (sums : Sums) (samples e : ℕ) : Type 0 where
   pub within : IsWithin sums samples e
   pub greatest : (g : ℕ) → IsWithin sums samples g → g ≤ e
+
+-- whether so many samples are enough for a precision in thousandths: they are two or more, and the standard error
+-- is at most that part of the mean, which is said in squares. Without a precision any number is enough
+abbrev pub is_enough : Sums → ℕ → Option ℕ → Bool
+is_enough sums samples None = true
+is_enough sums samples (Some precision) =
+    nat_le 2 samples && nat_le (spread_of sums samples) (precision * precision * (sums.total * sums.total) * (samples - 1))
+
+-- a precision is from 1 to 1000 thousandths
+abbrev pub IsPrecision : ℕ → Type 0
+IsPrecision precision = (1 ≤ precision) × (precision ≤ 1000)

@@ -1,5 +1,5 @@
 -- Sums over samples: each figure's plain sum and the sum of its squares, and cut rows added by mask.
-use Rattle.std.specs.Prelude.{ℕ, ◌*◌, ◌^◌, ◌<◌, ◌≤◌, List, length, map, sum_by, slice_index_or}
+use Rattle.std.specs.Prelude.{◌≡◌, ℕ, ◌+◌, ◌*◌, ◌^◌, ◌<◌, ◌≤◌, List, length, map, sum_by, slice_index_or}
 use Rattle.std.specs.List.{range_with_len}
 use Rattle.ra_base.specs.declared.limits.TheConstants.{MOST_SAMPLES, MOST_HOURS}
 use Rattle.sample_totals.specs.declared.results.TheConstants.{MOST_UNSERVED}
@@ -8,8 +8,8 @@ use Rattle.sample_totals.specs.declared.cut_rows.CutRow.{CutRow}
 use Rattle.sample_totals.specs.declared.estimates.Sums.{Sums}
 use Rattle.sample_totals.specs.declared.totals.Part.{Part}
 use Rattle.sample_totals.specs.declared.totals.Part.TheVariants.{Hours, Days, Events, Unserved}
-use Rattle.sample_totals.specs.CutRows.{masks, rows_of, hours_at, cut_unserved, AreRows}
-use Rattle.sample_totals.specs.Estimates.{AreSums, no_sums}
+use Rattle.sample_totals.specs.CutRows.{masks, rows_of, hours_at, cut_unserved, AreRows, AddsRows}
+use Rattle.sample_totals.specs.Estimates.{AreSums, no_sums, joined_sums}
 use Rattle.sample_totals.specs.Results.{short_hours, short_days, short_events, unserved_energy, zone_energy, cut_hours, cut_energy}
 
 -- what a contract sees of totals
@@ -64,3 +64,14 @@ pub record IsSheet (sheet : Sheet) : Type 0 where
   pub rows : AreRows 1 (2 ^ length sheet.zones) sheet.cuts
   pub row_hours : (m : ℕ) → hours_at sheet.cuts m ≤ sheet.samples * MOST_HOURS
   pub row_unserved : (m : ℕ) → cut_unserved sheet.cuts m ≤ sheet.samples * MOST_UNSERVED
+
+-- totals have gained other totals: the samples, each part and zone field by field, and the cut rows by mask
+pub record AddsTotals (old more new : Sheet) : Type 0 where
+  pub samples : new.samples ≡ old.samples + more.samples
+  pub hours : new.hours ≡ joined_sums old.hours more.hours
+  pub days : new.days ≡ joined_sums old.days more.days
+  pub events : new.events ≡ joined_sums old.events more.events
+  pub unserved : new.unserved ≡ joined_sums old.unserved more.unserved
+  pub zone_count : length new.zones ≡ length old.zones
+  pub zones : (z : ℕ) → z < length old.zones → zone_sums new z ≡ joined_sums (zone_sums old z) (zone_sums more z)
+  pub cuts : AddsRows old.cuts more.cuts new.cuts

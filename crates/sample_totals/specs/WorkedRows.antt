@@ -1,10 +1,10 @@
 -- Small cases that the definitions compute, each known by hand.
-use Rattle.std.specs.Prelude.{◌≡◌, ℕ, List, [], ◌∷◌, map, Some, None, refl}
+use Rattle.std.specs.Prelude.{◌≡◌, ℕ, true, false, List, [], ◌∷◌, map, Some, None, refl}
 use Rattle.std.specs.List.{range_with_len}
 use Rattle.sample_totals.specs.declared.outcomes.HourOutcome.{HourOutcome}
 use Rattle.sample_totals.specs.CutRows.{rows_of}
 use Rattle.sample_totals.specs.Results.{Figures, figures_of, is_short_at, is_short_day, short_hours, short_days, short_events, unserved_energy, zone_energy, cut_hours, cut_energy}
-use Rattle.sample_totals.specs.Estimates.{mean_of, error_of, greatest_up_to}
+use Rattle.sample_totals.specs.Estimates.{mean_of, error_of, greatest_up_to, is_enough}
 use Rattle.sample_totals.specs.Totals.{sums_of, totals_of}
 
 -- an hour without devices
@@ -56,3 +56,10 @@ two_days_error = refl
 pub one_day_error : error_of (record { total = 24; squares = 576 }) 1 ≡ None
 unfolding error_of
 one_day_error = refl
+
+-- for a precision of 10 thousandths one such sample isn't enough, and two are
+pub one_day_is_short : is_enough (record { total = 1440; squares = 2073600 }) 1 (Some 10) ≡ false
+one_day_is_short = refl
+
+pub two_days_are_enough : is_enough (record { total = 2880; squares = 4147200 }) 2 (Some 10) ≡ true
+two_days_are_enough = refl

@@ -4,6 +4,7 @@
 mod cut_rows;
 mod estimates;
 mod outcomes;
+mod recorder;
 mod results;
 #[cfg(test)]
 mod tests;
@@ -11,7 +12,8 @@ mod totals;
 mod unserved;
 
 pub use cut_rows::CutRow;
-pub use estimates::{Sums, error, mean};
+pub use estimates::{Sums, enough, error, mean};
 pub use outcomes::HourOutcome;
+pub use recorder::{Recorder, RecorderError};
 pub use results::{MOST_UNSERVED, SampleResult};
 pub use totals::{Part, Totals};

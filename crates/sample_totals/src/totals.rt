@@ -1,11 +1,11 @@
 ghost use Rattle.std.specs.Prelude.{◌≡◌, ℕ, ◌+◌, ◌*◌, ◌^◌, ◌<◌, ◌≤◌, List, [], ◌∷◌, ◌++◌, length, slice_index, slice_index_or, IfOk, OnOk, OnErr};
 ghost use Rattle.sample_totals.specs.CutRows.{AreRows};
-ghost use Rattle.sample_totals.specs.Estimates.{AreSums, FitsMore, with_value, no_sums};
+ghost use Rattle.sample_totals.specs.Estimates.{AreSums, FitsMore, FitBoth, with_value, joined_sums, no_sums};
 ghost use Rattle.sample_totals.specs.Results.{figures_of};
 ghost use Rattle.sample_totals.specs.declared.outcomes.HourOutcome.{HourOutcome};
 ghost use Rattle.sample_totals.specs.declared.results.TheConstants.{MOST_UNSERVED};
 ghost use Rattle.ra_base.specs.declared.limits.TheConstants.{MOST_SAMPLES};
-ghost use Rattle.sample_totals.specs.Totals.{part_of, zone_sums, totals_of};
+ghost use Rattle.sample_totals.specs.Totals.{part_of, zone_sums, totals_of, AddsTotals};
 
 use crate::cut_rows::{CutRow, add_rows};
 use crate::estimates::Sums;
@@ -86,10 +86,23 @@ fn add_zones(zones: &mut [Sums], sample: &SampleResult)
     }
 }
 
+/// Adds the sums of each zone.
+fn merge_zones(zones: &mut [Sums], more: &[Sums])
+    requires agree { length zones.old ≡ length more.now }
+    requires fits { (z : ℕ) → FitBoth (slice_index_or zones.old z no_sums) (slice_index_or more.now z no_sums) }
+    ensures { (z : ℕ) → z < length zones.old → slice_index_or zones.new z no_sums
+        ≡ joined_sums (slice_index_or zones.old z no_sums) (slice_index_or more.now z no_sums) }
+{
+    for (zone, sums) in zones.iter_mut().enumerate() {
+        *sums = sums.plus(more[zone]);
+    }
+}
+
 impl Totals {
     /// The totals of no sample, for so many zones.
     pub fn new(alloc: Global, zones: u8) -> Result<Totals, OutOfMemory>
         ensures empty { IfOk result (λ t. t ≡ totals_of zones []) }
+        ensures samples { IfOk result (λ t. t.samples ≡ 0) }
         ensures zones { IfOk result (λ t. length t.zones ≡ zones) }
     {
         Ok(Totals {
@@ -127,6 +140,46 @@ impl Totals {
         add_zones(&mut self.zones, sample);
         add_rows(&mut self.cuts, cuts);
         Ok(())
+    }
+
+    /// Adds other totals of as many zones: the samples, each part and zone, and the rows of each cut.
+    pub fn merge(&mut self, more: &Totals) -> Result<(), OutOfMemory>
+        requires zones { length self.old.zones ≡ length more.now.zones }
+        requires few { self.old.samples + more.now.samples ≤ MOST_SAMPLES }
+        ensures parts { OnOk result (AddsTotals self.old more.now self.new) }
+        // Where both were those of runs, they are now those of the runs of both.
+        ensures ok { OnOk result ((runs more_runs : List (List HourOutcome))
+            → let zones = length self.old.zones in
+            self.old ≡ totals_of zones runs → more.now ≡ totals_of zones more_runs
+            → self.new ≡ totals_of zones (runs ++ more_runs)) }
+        ensures samples { OnOk result (self.new.samples ≡ self.old.samples + more.now.samples) }
+        ensures zones { OnOk result (length self.new.zones ≡ length self.old.zones) }
+        ensures err { OnErr result (self.new ≡ self.old) }
+    {
+        self.cuts.reserve(more.cuts.len())?;
+        self.samples += more.samples;
+        self.hours = self.hours.plus(more.hours);
+        self.days = self.days.plus(more.days);
+        self.events = self.events.plus(more.events);
+        self.unserved = self.unserved.plus(more.unserved);
+        merge_zones(&mut self.zones, &more.zones);
+        add_rows(&mut self.cuts, &more.cuts);
+        Ok(())
+    }
+
+    /// The same totals once more.
+    pub fn copy(&self, alloc: Global) -> Result<Totals, OutOfMemory>
+        ensures { IfOk result (λ copy. copy ≡ self.now) }
+    {
+        Ok(Totals {
+            samples: self.samples,
+            hours: self.hours,
+            days: self.days,
+            events: self.events,
+            unserved: self.unserved,
+            zones: self.zones.to_vec(alloc)?,
+            cuts: self.cuts.to_vec(alloc)?,
+        })
     }
 
     /// How many samples were added: at most 1,000,000.
