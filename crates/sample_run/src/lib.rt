@@ -6,5 +6,7 @@ mod hours;
 mod network;
 mod runner;
 mod shapes;
+#[cfg(test)]
+mod tests;
 
 pub use runner::Runner;
