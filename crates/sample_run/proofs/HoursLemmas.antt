@@ -1,13 +1,11 @@
 -- What an hour leaves.
-use Rattle.std.proofs.Common.{◌≡◌, ℕ, ◌+◌, ◌<◌, ◌≤◌, ◌^◌, Bool, true, false, List, length, get_or, refl, ap, sym, ◌∙◌, subst, arith}
-use Rattle.std.specs.Prelude.{map, All}
-use Rattle.std.specs.List.{range_with_len}
+use Rattle.std.proofs.Common.{◌≡◌, ℕ, ◌<◌, ◌≤◌, Bool, true, false, List, length, get_or, refl, ap, sym, ◌∙◌, subst, arith}
 use Rattle.std.proofs.lemmas.List.{length-map}
 use Rattle.std.proofs.lemmas.List.FromFn.{length-map-range_with_len, get_or-map-range_with_len}
 use Rattle.std.proofs.lemmas.List.Elements.{All-map, All-weaker}
 use Rattle.system_model.specs.declared.components.Interface.{Interface}
 use Rattle.system_model.specs.declared.components.Storage.{Storage}
-use Rattle.system_model.specs.System.{SystemParts, IsValid, IsInterfaceAmong, IsStorageAmong, zone_count, storage_count, interface_count, storage_at}
+use Rattle.system_model.specs.System.{SystemParts, IsValid, IsInterfaceAmong, IsStorageAmong, zone_count, storage_count, storage_at}
 use Rattle.outage_chronology.specs.Outages.{storage_component}
 use Rattle.outage_chronology.specs.Standing.{Standing}
 use Rattle.storage_state.specs.Energy.{caps_if, caps_of}

@@ -1,11 +1,11 @@
 -- Laws that callers of this crate cite.
-use Rattle.std.proofs.Common.{◌≡◌, ℕ, ◌+◌, ◌<◌, ◌≤◌, inl, inr, List, [], ◌∷◌, ◌++◌, length, get_or, refl, ap, sym, ◌∙◌, subst, arith, length-append}
+use Rattle.std.proofs.Common.{◌≡◌, ℕ, ◌+◌, inl, inr, List, [], ◌∷◌, ◌++◌, length, get_or, refl, sym, ◌∙◌, subst, arith, length-append}
 use Rattle.std.proofs.lemmas.Bool.{cases_eq}
 use Rattle.std.proofs.lemmas.List.{ext_get_or, get_or_append_left}
 use Rattle.std.proofs.Math.Seq.{get_or-append_seam}
 use Rattle.system_model.specs.System.{SystemParts}
 use Rattle.sample_totals.specs.declared.outcomes.HourOutcome.{HourOutcome}
-use Rattle.sample_run.specs.Run.{IsRun, IsOnlyRun, AreFirstRuns}
+use Rattle.sample_run.specs.Run.{IsRun, AreFirstRuns}
 use Rattle.sample_run.proofs.RunLaws.{run-only}
 
 -- a sample has at most one run: two runs of it are the same

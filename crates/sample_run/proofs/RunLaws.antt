@@ -1,5 +1,5 @@
 -- A sample has at most one run.
-use Rattle.std.proofs.Common.{◌≡◌, ℕ, zero, suc, ◌+◌, ◌/◌, ◌%◌, ◌^◌, ◌<◌, ◌≤◌, ◌==◌, ◌⊎◌, inl, inr, Bool, true, false, List, length, get_or, refl, ap, sym, ◌∙◌, subst, arith}
+use Rattle.std.proofs.Common.{◌≡◌, ℕ, zero, suc, ◌^◌, ◌<◌, ◌⊎◌, inl, inr, Bool, true, false, List, refl, ap, sym, ◌∙◌, subst, arith}
 use Rattle.std.specs.Int.{bit_at}
 use Rattle.std.proofs.lemmas.List.{ext_get_or}
 use Rattle.std.proofs.lemmas.Bool.{cases_Bool, eq-eqb, eqb-true, false≢true}
@@ -9,13 +9,13 @@ use Rattle.outage_chronology.specs.Outages.{is_up}
 use Rattle.storage_state.specs.Holdings.{start_energies, carried_energies}
 use Rattle.zone_network.specs.Sums.{NumberSet, inside}
 use Rattle.zone_network.specs.Network.{ShapeParts, NetworkParts, device_count}
-use Rattle.zone_network.specs.Cut.{IsTight, IsCut}
+use Rattle.zone_network.specs.Cut.{IsCut}
 use Rattle.sample_totals.specs.declared.outcomes.HourOutcome.{HourOutcome}
 use Rattle.sample_totals.specs.Results.{no_outcome}
 use Rattle.cut_certificate.specs.Chain.{all_unserved, HaveSameLists}
 use Rattle.cut_certificate.proofs.UniqueLemmas.{only_best}
-use Rattle.sample_run.specs.HourNetwork.{network_of, shape_of}
-use Rattle.sample_run.specs.Run.{IsHour, IsRun, IsOnlyRun, energies_after, energies_before, outcome_at}
+use Rattle.sample_run.specs.HourNetwork.{network_of}
+use Rattle.sample_run.specs.Run.{IsHour, IsRun, IsOnlyRun, energies_after, outcome_at}
 use Rattle.sample_run.proofs.HoursLemmas.{network-shape, devices-count}
 
 -- two tests that imply each other are the same

@@ -1,5 +1,5 @@
 -- How the hours of a run come in.
-use Rattle.std.proofs.Common.{◌≡◌, ℕ, zero, suc, ◌+◌, ◌*◌, ◌^◌, ◌<◌, ◌≤◌, inl, inr, List, [], ◌∷◌, ◌++◌, length, get_or, refl, ap, sym, ◌∙◌, subst, arith, add-one, length-append}
+use Rattle.std.proofs.Common.{◌≡◌, ℕ, zero, suc, ◌+◌, ◌^◌, ◌<◌, ◌≤◌, inl, inr, List, [], ◌∷◌, ◌++◌, length, get_or, refl, ap, sym, ◌∙◌, subst, arith, add-one, length-append}
 use Rattle.std.specs.Prelude.{map, sum, sum_by}
 use Rattle.std.specs.List.{range_with_len}
 use Rattle.std.proofs.lemmas.Bool.{cases_eq}
@@ -12,13 +12,13 @@ use Rattle.system_model.specs.System.{SystemParts, IsValid, IsHourAmong, zone_co
 use Rattle.outage_chronology.specs.Outages.{is_up}
 use Rattle.storage_state.specs.Holdings.{start_energies, carried_energies}
 use Rattle.zone_network.specs.Sums.{NumberSet}
-use Rattle.zone_network.specs.Network.{ShapeParts, NetworkParts, load_at}
+use Rattle.zone_network.specs.Network.{ShapeParts, load_at}
 use Rattle.sample_totals.specs.declared.outcomes.HourOutcome.{HourOutcome}
 use Rattle.sample_totals.specs.Results.{Tally, no_outcome, tally_of, figures_of, zone_energy}
 use Rattle.cut_certificate.specs.Chain.{all_unserved}
 use Rattle.cut_certificate.specs.Least.{IsLeastUnserved}
-use Rattle.sample_run.specs.HourNetwork.{network_of, shape_of}
-use Rattle.sample_run.specs.Run.{IsHour, IsRun, IsOnlyRun, IsLeast, HasFigures, energies_before, outcome_at}
+use Rattle.sample_run.specs.HourNetwork.{network_of}
+use Rattle.sample_run.specs.Run.{IsHour, IsRun, IsLeast, HasFigures, energies_before, outcome_at}
 use Rattle.sample_run.specs.Moments.{Moment, up_in}
 use Rattle.sample_run.proofs.HoursLemmas.{network-shape}
 use Rattle.sample_run.proofs.RunLaws.{run-only}

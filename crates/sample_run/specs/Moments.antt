@@ -9,9 +9,7 @@ use Rattle.zone_network.specs.Network.{ShapeParts, NetworkParts}
 use Rattle.sample_totals.specs.declared.outcomes.HourOutcome.{HourOutcome}
 use Rattle.cut_certificate.specs.declared.chains.Chain.{Chain}
 use Rattle.cut_certificate.specs.Chain.{AreSized}
-use Rattle.cut_certificate.specs.Least.{IsLeastUnserved}
 use Rattle.sample_run.specs.HourNetwork.{shape_of}
-use Rattle.sample_run.specs.Run.{IsHour}
 
 -- an hour of a sample that was gone through: the energies after it, and its outcome
 pub record Moment : Type 0 where

@@ -1,4 +1,4 @@
-use Rattle.std.proofs.Common.{◌≡◌, refl, arith}
+use Rattle.std.proofs.Common.{arith}
 use Rattle.sample_run.proofs.EnergySteps.{held-more, held-all, held-same}
 use Rattle.sample_run.proofs.hours.apply.Goals as goal
 

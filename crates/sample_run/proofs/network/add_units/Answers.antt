@@ -1,5 +1,4 @@
-use Rattle.std.proofs.Common.{◌≡◌, ◌≤◌, ◌+◌, get_or, ap, sym, ◌∙◌, subst, arith}
-use Rattle.ra_base.specs.declared.limits.TheConstants.{MOST_LINK_MW}
+use Rattle.std.proofs.Common.{◌+◌, ap, sym, ◌∙◌, subst, arith}
 use Rattle.system_model.specs.declared.components.Unit.{Unit as UnitPart}
 use Rattle.zone_network.specs.Network.{NetworkParts}
 use Rattle.outage_chronology.specs.Standing.{is_up_at}

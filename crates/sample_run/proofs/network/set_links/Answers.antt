@@ -1,7 +1,7 @@
-use Rattle.std.proofs.Common.{ap, sym, ◌∙◌, arith}
+use Rattle.std.proofs.Common.{ap, ◌∙◌, arith}
 use Rattle.std.proofs.lemmas.List.{length-map}
 use Rattle.system_model.specs.declared.components.Line.{Line}
-use Rattle.zone_network.specs.Network.{ShapeParts, link_count}
+use Rattle.zone_network.specs.Network.{link_count}
 use Rattle.sample_run.specs.HourNetwork.{link_of}
 use Rattle.sample_run.proofs.NetworkSteps.{closed-start, closed-more, closed-all}
 use Rattle.sample_run.proofs.network.set_links.Goals as goal

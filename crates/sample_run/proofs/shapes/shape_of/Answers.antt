@@ -1,8 +1,6 @@
-use Rattle.std.proofs.Common.{◌≡◌, ℕ, List, map, sym, ◌∙◌, subst}
-use Rattle.system_model.specs.declared.components.Storage.{Storage}
+use Rattle.std.proofs.Common.{◌≡◌, ℕ, List, sym, ◌∙◌, subst}
 use Rattle.zone_network.specs.declared.links.Link.{Link}
 use Rattle.zone_network.specs.Network.{ShapeParts, IsShape}
-use Rattle.sample_run.specs.HourNetwork.{shape_of, link_of}
 use Rattle.sample_run.proofs.HoursLemmas.{shape-valid}
 use Rattle.sample_run.proofs.shapes.shape_of.Goals as goal
 

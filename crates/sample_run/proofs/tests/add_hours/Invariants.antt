@@ -1,4 +1,4 @@
-use Rattle.std.proofs.Common.{◌≡◌, ◌≤◌}
+use Rattle.std.proofs.Common.{◌≡◌}
 use Rattle.system_model.specs.System.{zone_count, hour_count}
 use Rattle.sample_run.proofs.tests.add_hours.Given as goal
 

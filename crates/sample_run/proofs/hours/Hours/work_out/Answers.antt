@@ -1,4 +1,4 @@
-use Rattle.std.proofs.Common.{◌≡◌, ap, sym, ◌∙◌, subst}
+use Rattle.std.proofs.Common.{ap, sym, ◌∙◌, subst}
 use Rattle.zone_network.specs.Network.{NetworkParts}
 use Rattle.outage_chronology.specs.Standing.{is_up_at}
 use Rattle.outage_chronology.specs.Outages.{is_up}
@@ -6,7 +6,6 @@ use Rattle.system_model.specs.System.{SystemParts}
 use Rattle.sample_totals.specs.declared.outcomes.HourOutcome.{HourOutcome}
 use Rattle.sample_run.specs.Run.{IsHour}
 use Rattle.sample_run.specs.Moments.{Moment}
-use Rattle.sample_run.specs.HourNetwork.{network_of}
 use Rattle.sample_run.proofs.HoursLemmas.{network-shape, sized-again, within-caps, kept-again, hour-made}
 use Rattle.sample_run.proofs.hours.Hours.work_out.Goals as goal
 

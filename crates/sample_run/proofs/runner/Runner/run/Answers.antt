@@ -1,10 +1,10 @@
-use Rattle.std.proofs.Common.{◌≡◌, ◌+◌, ◌-◌, ◌<◌, List, [], ◌∷◌, ◌++◌, length, refl, ap, sym, ◌∙◌, subst, arith}
+use Rattle.std.proofs.Common.{◌≡◌, ◌-◌, [], ◌∷◌, ◌++◌, length, refl, ap, sym, ◌∙◌, subst, arith}
 use Rattle.system_model.specs.System.{SystemParts, IsValid, zone_count, hour_count}
 use Rattle.sample_totals.specs.declared.outcomes.HourOutcome.{HourOutcome}
 use Rattle.sample_totals.specs.Results.{Tally, tally_of}
 use Rattle.sample_run.specs.Run.{Simulation}
 use Rattle.sample_run.specs.Moments.{Moment}
-use Rattle.sample_run.proofs.RunSteps.{Stands, FitsIn, fits-in, at-first, at-next, at-last, least-last, at-counted, at-room, at-zones, tally-counted, tally-room, tally-zones}
+use Rattle.sample_run.proofs.RunSteps.{fits-in, at-first, at-next, at-last, least-last, at-counted, at-room, at-zones, tally-counted, tally-room, tally-zones}
 use Rattle.sample_run.proofs.runner.Runner.run.Goals as goal
 
 pub loop-hour-init : goal.loop-hour-init

@@ -1,4 +1,3 @@
-use Rattle.std.proofs.Common.{◌<◌}
 use Rattle.sample_run.proofs.RunSteps.{IsAt}
 use Rattle.sample_run.proofs.runner.Runner.run.Given as goal
 
