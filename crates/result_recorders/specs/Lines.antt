@@ -25,7 +25,7 @@ plain_line outcome =
 unfoldable pub shortfall_line : HourOutcome → List ℕ
 shortfall_line outcome =
     if nat_lt 0 (sum outcome.unserved) then
-      codes "shortfall " ++ whole_text outcome.hour ++ codes " total " ++ whole_text (sum outcome.unserved) ++ 10 ∷ []
+    codes "shortfall " ++ whole_text outcome.hour ++ codes " total " ++ whole_text (sum outcome.unserved) ++ 10 ∷ []
     else []
 
 -- what each device holds after an hour, in kWh
@@ -45,6 +45,6 @@ unfoldable pub cut_line : HourOutcome → List ℕ
 cut_line outcome =
     if outcome.cut == 0 then []
     else
-      codes "cut " ++ whole_text outcome.hour
-      ++ codes " zones " ++ joined_text (zones_in outcome.cut MOST_ZONES)
-      ++ codes " unserved " ++ whole_text (sum outcome.unserved) ++ 10 ∷ []
+    codes "cut " ++ whole_text outcome.hour
+    ++ codes " zones " ++ joined_text (zones_in outcome.cut MOST_ZONES)
+    ++ codes " unserved " ++ whole_text (sum outcome.unserved) ++ 10 ∷ []
