@@ -4,3 +4,5 @@ pub mod HoursLemmas
 pub mod RunLaws
 pub mod RunSteps
 pub mod Laws
+pub mod TraceSteps
+pub mod TraceRuns

@@ -111,7 +111,7 @@ before-more system run outcome zero below = refl
 before-more system run outcome (suc h) below =
     ap (λ (o : HourOutcome). carried_energies system o.energy) (get_or_append_left run (outcome ∷ []) no_outcome h (omega arith))
 
-at-end : (run : List HourOutcome) (outcome : HourOutcome) (h : ℕ) → h ≡ length run → outcome_at (run ++ outcome ∷ []) h ≡ outcome
+pub at-end : (run : List HourOutcome) (outcome : HourOutcome) (h : ℕ) → h ≡ length run → outcome_at (run ++ outcome ∷ []) h ≡ outcome
 at-end run outcome h e = ap (λ (k : ℕ). outcome_at (run ++ outcome ∷ []) k) e ∙ get_or-append_seam run outcome [] no_outcome
 
 pub part-more : (system : SystemParts) (seed sample : ℕ) (run : List HourOutcome) (outcome : HourOutcome) (count : ℕ)
@@ -151,7 +151,7 @@ part-start system seed sample =
     record { size = refl; each = λ h below. absurd (omega arith); least = λ h below. absurd (omega arith) }
 
 -- what the hours of a sample show is of the system, the seed and the sample
-hour-shown : (system : SystemParts) (seed sample count : ℕ) (moment : Moment) (energies : List ℕ)
+pub hour-shown : (system : SystemParts) (seed sample count : ℕ) (moment : Moment) (energies : List ℕ)
     → Stands system seed sample count moment
     → IsHour moment.system (up_in moment) energies moment.hour moment.outcome
     → IsHour system (is_up system seed sample count) energies count moment.outcome
@@ -161,7 +161,7 @@ hour-shown system seed sample count moment energies at is =
     (subst (λ (s : ℕ). IsHour system (is_up system s moment.sample moment.hour) energies moment.hour moment.outcome) at.seed_is
     (subst (λ (s : SystemParts). IsHour s (is_up s moment.seed moment.sample moment.hour) energies moment.hour moment.outcome) at.system_is is)))
 
-least-shown : (system : SystemParts) (seed sample count : ℕ) (moment : Moment) (energies : List ℕ)
+pub least-shown : (system : SystemParts) (seed sample count : ℕ) (moment : Moment) (energies : List ℕ)
     → Stands system seed sample count moment
     → Leaves moment.system moment.seed moment.sample moment.hour energies moment.outcome
     → Leaves system seed sample count energies moment.outcome

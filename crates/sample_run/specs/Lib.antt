@@ -5,3 +5,4 @@ pub mod Moments
 pub mod Ready
 pub mod Keeps
 pub mod WorkedRows
+pub mod Trace

@@ -8,5 +8,7 @@ mod runner;
 mod shapes;
 #[cfg(test)]
 mod tests;
+mod traces;
 
 pub use runner::Runner;
+pub use traces::TraceError;
