@@ -2,7 +2,6 @@
 use Rattle.std.proofs.Common.{◌≡◌, ◌&&◌, ◌||◌, ℕ, ◌+◌, ◌≤◌, inl, inr, Bool, true, false, not, List, [], ◌∷◌, ◌++◌, refl, ap, sym, ◌∙◌, subst, arith, append_assoc}
 use Rattle.std.proofs.lemmas.Bool.{cases_Bool, false≢true}
 use Rattle.std.proofs.lemmas.List.{append-nil}
-use Rattle.std.proofs.lemmas.List.Elements.{All-nil, All-push, All-append}
 use mathlib.Core.List.{IsPrefix}
 use Rattle.campaign_core.specs.declared.run.SampleRange.{SampleRange}
 use Rattle.campaign_core.specs.declared.gate.Gate.{Gate}
@@ -24,14 +23,15 @@ use Rattle.campaign_workers.specs.declared.working.WorkEnd.{WorkEnd}
 use Rattle.campaign_workers.specs.declared.working.WorkEnd.TheVariants.{Idle, Drained, Cancelled, OutOfMemory}
 use Rattle.campaign_workers.specs.Working.{is_work, AreWork, SameOut, Works, Stops, GivesUp, DidWork}
 
-abbrev work_entry : Entry → Type 0
-work_entry e = is_work e.call ≡ true
+pub work_both : (xs ys : List Entry) → AreWork xs → AreWork ys → AreWork (xs ++ ys)
+work_both [] ys a b = b
+work_both (x ∷ xs) ys a b = (a.0, work_both xs ys a.1 b)
 
 module _ {B : Type 0} where
   same_self : (v : View B) → IsSameSeat v v
   same_self v = record { number = refl; made = refl; joined = refl; holds = refl; target = refl; block = refl }
 
-  same_then : (v u w : View B) → IsSameSeat v u → IsSameSeat u w → IsSameSeat v w
+  pub same_then : (v u w : View B) → IsSameSeat v u → IsSameSeat u w → IsSameSeat v w
   same_then v u w s t = record {
     number = t.number ∙ s.number;
     made = t.made ∙ s.made;
@@ -41,7 +41,7 @@ module _ {B : Type 0} where
     block = t.block ∙ s.block;
   }
 
-  same_says : (v : View B) (call : Call) (reply : Reply) (w : View B) → Says v call reply w → IsSameSeat v w
+  pub same_says : (v : View B) (call : Call) (reply : Reply) (w : View B) → Says v call reply w → IsSameSeat v w
   same_says v call reply w says = record {
     number = ap (λ (x : View B). x.number) says.view;
     made = ap (λ (x : View B). x.made) says.view;
@@ -89,7 +89,7 @@ module _ {B : Type 0} where
   works_none v = record {
     done = [];
     calls = sym (append-nil v.calls);
-    work = All-nil work_entry;
+    work = tt;
     seen = prefix_self v.seen;
     same = same_self v;
   }
@@ -100,7 +100,7 @@ module _ {B : Type 0} where
       record {
         done = worked.done ++ e ∷ [];
         calls = calls_says u call reply w says ∙ (ap (λ l. l ++ e ∷ []) worked.calls ∙ append_assoc v.calls worked.done (e ∷ []));
-        work = All-push work_entry worked.done e worked.work work;
+        work = work_both worked.done (e ∷ []) worked.work (work, tt);
         seen = prefix_trans v.seen u.seen w.seen worked.seen (seen_says u call reply w says);
         same = same_then v u w worked.same (same_says u call reply w says);
       }
@@ -118,7 +118,7 @@ module _ {B : Type 0} where
   works_then v u w one two = record {
     done = one.done ++ two.done;
     calls = two.calls ∙ (ap (λ l. l ++ two.done) one.calls ∙ append_assoc v.calls one.done two.done);
-    work = All-append work_entry one.done two.done one.work two.work;
+    work = work_both one.done two.done one.work two.work;
     seen = prefix_trans v.seen u.seen w.seen one.seen two.seen;
     same = same_then v u w one.same two.same;
   }

@@ -1,1 +1,4 @@
 pub mod Working
+pub mod Crews
+pub mod Standing
+pub mod Rounds

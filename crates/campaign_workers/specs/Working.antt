@@ -1,5 +1,5 @@
 -- What a worker did at a campaign.
-use Rattle.std.specs.Prelude.{◌≡◌, Bool, true, false, List, [], ◌∷◌, ◌++◌, All}
+use Rattle.std.specs.Prelude.{◌≡◌, Bool, true, false, List, [], ◌∷◌, ◌++◌}
 use mathlib.Core.List.{IsPrefix}
 use Rattle.campaign_core.specs.declared.run.SampleRange.{SampleRange}
 use Rattle.campaign_core.specs.declared.call.Call.{Call}
@@ -23,7 +23,13 @@ is_work other = false
 
 -- these are calls of work alone
 abbrev pub AreWork : List Entry → Type 0
-AreWork calls = All (λ (e : Entry). is_work e.call ≡ true) calls
+AreWork [] = Unit {0}
+AreWork (e ∷ calls) = (is_work e.call ≡ true) × AreWork calls
+
+-- whether a worker ended without memory
+abbrev pub is_short : WorkEnd → Bool
+is_short OutOfMemory = true
+is_short other = false
 
 module _ {B : Type 0} where
   -- just the shares that were out are out

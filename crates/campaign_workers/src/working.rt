@@ -5,7 +5,7 @@ ghost use Rattle.campaign_core.specs.Ranges.{has_range};
 ghost use Rattle.campaign_core.specs.History.{out_of};
 ghost use Rattle.turn_book.specs.Views.{IsSameSeat};
 ghost use Rattle.campaign.specs.Passes.{pass_of, work_of, IsOf, Saw, Says};
-ghost use Rattle.campaign_workers.specs.Working.{DidWork, SameOut, Works};
+ghost use Rattle.campaign_workers.specs.Working.{is_short, DidWork, SameOut, Works};
 
 use campaign::{Campaign, Claim, Pass};
 use campaign_core::{Job, Share, Work};
@@ -25,6 +25,15 @@ pub enum WorkEnd {
     Cancelled,
     /// A share found no memory. It was given up, and the campaign cancelled.
     OutOfMemory,
+}
+
+impl WorkEnd {
+    /// Whether it ended without memory.
+    pub fn is_short(self) -> bool
+        ensures { result ≡ is_short self }
+    {
+        matches!(self, WorkEnd::OutOfMemory)
+    }
 }
 
 /// A worker's pass, and how it ended.

@@ -34,3 +34,18 @@ loop-preserved g c =
       out = out_then v u w c.loop.invariant.out stops.out;
       job = λ work. both_ways (c.loop.invariant.job work) (jobs work);
     }
+
+pub loop-preserved-in-None-turn : goal.loop-preserved-in-None-turn
+loop-preserved-in-None-turn g c =
+    let v = pass_of c.args.pass.now in
+    let u = pass_of c.loop.pass in
+    let w = pass_of c.turn.new.pass in
+    let did = c.in-None-turn.ensures.work in
+    let jobs = c.turn.ensures.job in
+    record {
+      pass = c.turn.ensures.pass;
+      serves = (jobs _).0 c.loop.invariant.serves;
+      works = works_then v u w c.loop.invariant.works did.0;
+      out = out_then v u w c.loop.invariant.out did.1;
+      job = λ work. both_ways (c.loop.invariant.job work) (jobs work);
+    }
