@@ -1,4 +1,5 @@
-use Rattle.std.proofs.Common.{sym, ◌∙◌, refl}
+use Rattle.std.proofs.Common.{◌≡◌, sym, ◌∙◌, refl, rules}
+use Rattle.ra_base.specs.declared.limits.TheConstants.{MOST_ZONES}
 use Rattle.decimal_text.proofs.Growing.{Joined-none, Joined-yes, Joined-no}
 use Rattle.result_recorders.proofs.ZoneLemmas.{zones_joined}
 use Rattle.result_recorders.proofs.lines.put_zones.Goals.{then-has_zone+in_ok-put_joined, else-has_zone}
@@ -16,4 +17,6 @@ loop-zone-preserved c = elim c.if-has_zone.branch [
 ]
 
 pub returns : goal.returns
-returns c = zones_joined _ _ _ _ _ c.loop-zone.invariant
+returns c =
+    let end : c.loop-zone.zone ≡ MOST_ZONES = search rules in
+    rw end at (zones_joined c.args.mask c.loop-zone.zone _ _ _ c.loop-zone.invariant)
