@@ -1,5 +1,4 @@
--- The unserved energy of a sample as a function of its number, by comparing every dispatch of each hour: a test of
--- samples speaks of it.
+-- The unserved energy of a sample as a function of its number, by comparing every dispatch of each hour.
 use Rattle.std.specs.Prelude.{ℕ, ℤ, pos, negsuc, zero, suc, ◌+◌, ◌-◌, ◌==◌, ◌&&◌, ◌||◌, Bool, true, false, nat_lt, nat_le, List, [], ◌∷◌, map, sum, sum_by, if◌then◌else◌}
 use Rattle.std.specs.List.{range_with_len}
 use Rattle.system_model.specs.System.{SystemParts, hour_count}

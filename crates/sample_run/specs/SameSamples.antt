@@ -1,5 +1,4 @@
--- Neither the order of ranges nor their cutting matters to the samples that a sum stands for, or to whether they are
--- enough.
+-- Neither the order of ranges nor their cutting matters to what stands for them, or to whether they are enough.
 use Rattle.std.specs.Prelude.{◌≡◌, ℕ, ◌+◌, ◌*◌, ◌<◌, List, [], ◌∷◌, map, sum_by, Option}
 use Rattle.std.specs.List.{range_with_len}
 use Rattle.std.proofs.Common.{sym, ap, ◌∙◌, arith}
