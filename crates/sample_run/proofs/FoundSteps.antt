@@ -1,14 +1,14 @@
 -- Comparing all dispatches of an hour finds a best one, where there is one, and so the unserved energy of a sample.
-use Rattle.std.proofs.Common.{◌≡◌, ℕ, ℤ, pos, negsuc, zero, suc, ◌+◌, ◌-◌, ◌<◌, ◌≤◌, ◌==◌, ◌⊎◌, inl, inr, Bool, true, false, cond, ◌&&◌, ◌||◌, nat_lt, nat_le, List, [], ◌∷◌, ◌++◌, map, reverse, length, get_or, sum, refl, ap, sym, ◌∙◌, subst, arith, length-append}
+use Rattle.std.proofs.Common.{◌≡◌, ℕ, ℤ, pos, negsuc, zero, suc, ◌+◌, ◌-◌, ◌<◌, ◌≤◌, ◌==◌, ◌⊎◌, inl, inr, Bool, true, false, cond, ◌&&◌, nat_lt, List, [], ◌∷◌, ◌++◌, map, reverse, length, sum, refl, ap, sym, ◌∙◌, subst, arith, length-append}
 use Rattle.std.specs.List.{range_with_len, sum_by}
-use Rattle.std.proofs.lemmas.Bool.{true≢false, false≢true, cases_eq, cases_lt, cases_Bool, ltb-false, ltb-true, lt-ltb, le-ltb, leb-true, le-leb, eqb-true, eqb-false, eq-eqb, ne_eqb, and_parts, and_from, and_cases, and_left, and_right, or_cases, or_parts, or_from, cond-true, cond-false}
+use Rattle.std.proofs.lemmas.Bool.{true≢false, false≢true, cases_eq, cases_lt, cases_Bool, ltb-false, ltb-true, le-ltb, leb-true, le-leb, eqb-true, eqb-false, eq-eqb, ne_eqb, and_parts, and_from, and_cases, and_left, and_right, or_cases, or_parts, or_from, cond-true, cond-false}
 use Rattle.std.proofs.lemmas.List.{ext_get_or, length-map}
 use Rattle.std.proofs.lemmas.List.FromFn.{length-map-range_with_len, get_or-map-range_with_len}
 use Rattle.system_model.specs.System.{SystemParts, zone_count, storage_count, hour_count}
 use Rattle.outage_chronology.specs.Outages.{is_up}
-use Rattle.storage_state.specs.Holdings.{start_energies, carried_energies}
+use Rattle.storage_state.specs.Holdings.{carried_energies}
 use Rattle.zone_network.specs.Sums.{NumberSet, sum_where}
-use Rattle.zone_network.specs.Network.{ShapeParts, NetworkParts, from_zone, to_zone, forward_of, backward_of, inflow, outflow, over_devices, link_count, device_count, zone_of_device, supply_at, load_at, forward_at, backward_at, discharge_cap_at, charge_cap_at}
+use Rattle.zone_network.specs.Network.{ShapeParts, NetworkParts, from_zone, to_zone, forward_of, backward_of, over_devices, link_count, device_count, zone_of_device, supply_at, load_at, forward_at, backward_at, discharge_cap_at, charge_cap_at}
 use Rattle.zone_network.specs.Dispatch.{Dispatch, IsFeasible, IsBest, Precedes, serving_order, unserved_at, uncharged_at, compared_list}
 use Rattle.zone_network.proofs.SumLemmas.{sum_where-same}
 use Rattle.sample_totals.specs.declared.outcomes.HourOutcome.{HourOutcome}

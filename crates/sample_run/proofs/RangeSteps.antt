@@ -1,17 +1,17 @@
 -- The totals of a range of samples that has come as far as some sample.
-use Rattle.std.proofs.Common.{◌≡◌, ℕ, zero, suc, ◌+◌, ◌-◌, ◌<◌, ◌≤◌, inl, inr, List, [], ◌∷◌, ◌++◌, map, length, get_or, refl, ap, sym, ◌∙◌, subst, arith, length-append}
+use Rattle.std.proofs.Common.{◌≡◌, ℕ, ◌+◌, ◌-◌, ◌<◌, inl, inr, List, [], ◌∷◌, ◌++◌, map, length, get_or, refl, ap, sym, ◌∙◌, subst, arith, length-append}
 use Rattle.std.specs.List.{range_with_len}
 use Rattle.std.proofs.lemmas.Bool.{cases_lt}
 use Rattle.std.proofs.lemmas.List.{ext_get_or, get_or_append_left, append-nil}
 use Rattle.std.proofs.lemmas.List.FromFn.{length-map-range_with_len, get_or-map-range_with_len}
 use Rattle.std.proofs.Math.Seq.{get_or-append_seam}
-use Rattle.campaign_core.specs.Ranges.{range, times}
+use Rattle.campaign_core.specs.Ranges.{range}
 use Rattle.system_model.specs.System.{SystemParts, zone_count}
 use Rattle.sample_totals.specs.declared.outcomes.HourOutcome.{HourOutcome}
 use Rattle.sample_totals.specs.Results.{Figures, figures_of}
 use Rattle.sample_totals.specs.Totals.{Sheet, totals_of}
 use Rattle.sample_totals.proofs.Laws.{law_samples, law_zones}
-use Rattle.sample_run.specs.Run.{Simulation, IsRun, IsOnlyRun, IsLeast, HasFigures}
+use Rattle.sample_run.specs.Run.{IsRun, IsLeast, HasFigures}
 use Rattle.sample_run.specs.SampleWorks.{IsTrueRun, StandsFor}
 use Rattle.sample_run.proofs.WorkLaws.{has_within}
 

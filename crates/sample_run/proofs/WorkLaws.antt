@@ -1,10 +1,10 @@
 -- What stands for which samples: sums of the same samples, of none, and of two lots; and the laws for callers.
-use Rattle.std.proofs.Common.{◌≡◌, ℕ, zero, suc, ◌+◌, ◌-◌, ◌*◌, ◌<◌, ◌≤◌, inl, inr, Bool, true, false, cond, nat_lt, nat_le, ◌&&◌, List, [], ◌∷◌, ◌++◌, map, take, length, get_or, sum, Option, Result, Ok, Err, IfOk, OnOk, refl, ap, sym, ◌∙◌, subst, arith, length-append}
-use Rattle.std.specs.List.{range_with_len, sum_by, flat_map}
-use Rattle.std.proofs.lemmas.Bool.{cases_eq, cases_lt, cases_Bool, lt-ltb, le-ltb, ltb-true, le-leb, and_from, and_parts, leb-true, cond-true, cond-false}
-use Rattle.std.proofs.lemmas.List.{ext_get_or, length-map, map-append, append-nil, length-take-le}
+use Rattle.std.proofs.Common.{◌≡◌, ℕ, zero, suc, ◌+◌, ◌*◌, ◌<◌, ◌≤◌, inl, inr, true, cond, nat_lt, nat_le, List, [], ◌∷◌, ◌++◌, map, take, length, get_or, sum, Option, Result, Ok, Err, IfOk, OnOk, refl, ap, sym, ◌∙◌, subst, arith}
+use Rattle.std.specs.List.{range_with_len, sum_by}
+use Rattle.std.proofs.lemmas.Bool.{cases_lt, cases_Bool, lt-ltb, le-ltb, ltb-true, le-leb, and_from, and_parts, leb-true, cond-true, cond-false}
+use Rattle.std.proofs.lemmas.List.{length-map, map-append, append-nil, length-take-le}
 use Rattle.std.proofs.lemmas.List.Concat.{flat_map-append}
-use Rattle.std.proofs.lemmas.List.FromFn.{length-range_with_len, length-map-range_with_len, get_or-map-range_with_len, fill_by_all}
+use Rattle.std.proofs.lemmas.List.FromFn.{length-map-range_with_len, get_or-map-range_with_len, fill_by_all}
 use Rattle.std.proofs.lemmas.List.Folds.{fold-map}
 use Rattle.std.proofs.lemmas.List.Sums.{sum_by-cons, sum-map}
 use Rattle.campaign_core.specs.declared.run.SampleRange.{SampleRange}

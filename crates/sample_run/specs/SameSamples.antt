@@ -1,10 +1,10 @@
 -- Neither the order of ranges nor their cutting matters to what stands for them, or to whether they are enough.
-use Rattle.std.specs.Prelude.{◌≡◌, ℕ, ◌+◌, ◌*◌, ◌<◌, List, [], ◌∷◌, map, sum_by, Option}
+use Rattle.std.specs.Prelude.{◌≡◌, ℕ, ◌+◌, ◌*◌, List, [], ◌∷◌, sum_by, Option}
 use Rattle.std.specs.List.{range_with_len}
 use Rattle.std.proofs.Common.{sym, ap, ◌∙◌, arith}
 use Rattle.std.proofs.lemmas.List.Sums.{sum_by-append}
 use Rattle.campaign_core.specs.declared.run.SampleRange.{SampleRange}
-use Rattle.campaign_core.specs.Ranges.{times, weight_of, total, AreSame}
+use Rattle.campaign_core.specs.Ranges.{weight_of, total, AreSame}
 use Rattle.campaign_core.proofs.Totals.{total-nil, total-cons, times_same}
 use Rattle.system_model.specs.System.{SystemParts, zone_count}
 use Rattle.sample_totals.specs.Estimates.{is_enough}

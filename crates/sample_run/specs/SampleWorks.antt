@@ -1,5 +1,5 @@
 -- For which samples a sum stands, and whether samples are enough for a precision.
-use Rattle.std.specs.Prelude.{◌≡◌, ℕ, ◌*◌, ◌<◌, Bool, List, [], ◌∷◌, length, map, take, slice_index_or, Option}
+use Rattle.std.specs.Prelude.{◌≡◌, ℕ, ◌*◌, ◌<◌, Bool, List, [], length, map, slice_index_or, Option}
 use Rattle.std.specs.List.{flat_map, range_with_len}
 use Rattle.campaign_core.specs.declared.run.SampleRange.{SampleRange}
 use Rattle.campaign_core.specs.Ranges.{times, total}

@@ -1,9 +1,9 @@
 ghost use Rattle.std.specs.Prelude.{◌≡◌, ◌+◌, ◌<◌, ◌≤◌, ◌↔◌, [], ◌∷◌, All, IfOk, IfSome, OnOk, length};
-ghost use Rattle.campaign_core.specs.Ranges.{range, total};
+ghost use Rattle.campaign_core.specs.Ranges.{range};
 ghost use Rattle.campaign_core.specs.Shares.{IsShare};
 ghost use Rattle.system_model.specs.System.{zone_count, interface_count};
 ghost use Rattle.sample_totals.specs.Estimates.{IsPrecision};
-ghost use Rattle.sample_run.specs.SampleWorks.{StandsFor};
+ghost use Rattle.sample_run.specs.SampleWorks.{IsWorkOf, StandsFor};
 
 use crate::{Runner, SampleWork};
 use campaign_core::{Job, Share, Work};
@@ -608,6 +608,32 @@ fn ran<W: Work, J: Job<W> + Send>(
     }
 }
 
+// The totals of the first four samples by two shares, the later one first.
+fn gathered(
+    alloc: Global,
+    system: &System,
+    work: &SampleWork<'_>,
+) -> Result<Totals, OutOfMemory>
+    requires { IsWorkOf (record { system = system.now; seed = 1 }) work.now }
+    ensures { IfOk result (λ sum. StandsFor work.now.system work.now.seed sum (range 2 2 ∷ range 0 2 ∷ [])) }
+{
+    let mut runner = Runner::new(alloc, system, 1)?;
+    let later = ran::<SampleWork<'_>, _>(alloc, &mut runner, 2, 2)?;
+    let earlier = ran::<SampleWork<'_>, _>(alloc, &mut runner, 0, 2)?;
+    let mut sum = work.copy(alloc, &later)?;
+    work.merge(&mut sum, &earlier)?;
+    Ok(sum)
+}
+
+// Whether they are enough for a precision.
+fn are_enough(alloc: Global, system: &System, precision: Option<u16>) -> Result<bool, OutOfMemory>
+    requires { IfSome precision IsPrecision }
+{
+    let work = SampleWork::new(system, 1, precision);
+    let sum = gathered(alloc, system, &work)?;
+    Ok(work.enough(&sum))
+}
+
 // What may go to another thread, and be shared by threads.
 fn may_be_sent<T: Send>(_value: &T) {}
 
@@ -630,24 +656,19 @@ fn shares_in_another_order_give_the_same_totals(rt: HostRuntime) -> Result<(), F
     let alloc = rt.alloc();
     let system = system_of(&rt, alloc, &plan)?;
     assert!(rt; system.zones() == 1);
-    let mut runner = Runner::new(alloc, &system, 1)?;
-    let work = SampleWork::new(&system, 1, Some(112));
-    let none = work.empty(alloc)?;
-    assert_eq!(rt; none.samples(), 0);
-    let later = ran::<SampleWork<'_>, _>(alloc, &mut runner, 2, 2)?;
-    let earlier = ran::<SampleWork<'_>, _>(alloc, &mut runner, 0, 2)?;
-    let mut sum = work.copy(alloc, &later)?;
-    work.merge(&mut sum, &earlier)?;
+    let work = SampleWork::new(&system, 1, None);
+    assert_eq!(rt; work.empty(alloc)?.samples(), 0);
+    let sum = gathered(alloc, &system, &work)?;
     assert_eq!(rt; sum.samples(), 4);
     has_sums(&rt, &sum, [6, 4, 4, 90]);
     has_zones(&rt, &sum, &[90]);
     has_cuts(&rt, &sum, &[(1, 6, 90)]);
-    // The sum of squares is 2,100, so 10^6 * (4 * 2,100 - 90^2) is at most 112^2 * 90^2 * 3, and above that
-    // with 111. By the hours 333 would be too few.
-    assert!(rt; work.enough(&sum));
-    assert!(rt; !SampleWork::new(&system, 1, Some(111)).enough(&sum));
-    assert!(rt; SampleWork::new(&system, 1, None).enough(&later));
-    may_be_sent(&runner);
+    // The sum of squares is 2,100, and 10^6 * (4 * 2,100 - 90^2) is at most 112^2 * 90^2 * 3 and above that with
+    // 111. By the hours 333 would be too few.
+    assert!(rt; are_enough(alloc, &system, Some(112))?);
+    assert!(rt; !are_enough(alloc, &system, Some(111))?);
+    assert!(rt; are_enough(alloc, &system, None)?);
+    may_be_sent(&Runner::new(alloc, &system, 1)?);
     may_be_sent(&work);
     may_be_sent(&sum);
     may_be_shared(&work);

@@ -1,22 +1,16 @@
-use Rattle.std.proofs.Common.{ℕ, List, [], ◌∷◌, sym, ap, ◌∙◌, arith}
-use Rattle.std.proofs.lemmas.Bool.Decides.{nat_tests}
-use Rattle.campaign_core.specs.Ranges.{range, AreDisjoint, total}
-use Rattle.campaign_core.proofs.Totals.{times-nil, times-cons, total-cons, total-nil}
-use Rattle.campaign_core.proofs.MachineLaws.{weight-ones}
+use Rattle.std.proofs.Common.{arith, ap, sym}
+use Rattle.system_model.specs.System.{zone_count}
+use Rattle.sample_run.specs.SampleWorks.{WorkTerms}
+use Rattle.sample_run.proofs.WorkLaws.{stands_zones}
 use Rattle.sample_run.proofs.tests.shares_in_another_order_give_the_same_totals.Goals as goal
 
-apart : AreDisjoint (range 2 2 ∷ range 0 2 ∷ [])
-apart n =
-    let t = times-cons n (range 2 2) (range 0 2 ∷ []) in
-    let u = times-cons n (range 0 2) [] in
-    let v = times-nil n in
-    (grind (arith, nat_tests), λ h. grind (arith, nat_tests))
-
-pub merge-requires : goal.merge-requires
-merge-requires g c = let h = c.in_ok-later in let k = c.new-work in let m = c.in_ok-runner in ?
-
-pub enough-requires : goal.enough-requires
-enough-requires g c = ?
+pub gathered-requires : goal.gathered-requires
+gathered-requires g c =
+    record {
+      system = sym (ap (λ (w : WorkTerms). w.system) c.new-work.ensures);
+      seed = sym (ap (λ (w : WorkTerms). w.seed) c.new-work.ensures);
+    }
 
 pub has_zones-requires : goal.has_zones-requires
-has_zones-requires g c = ?
+has_zones-requires g c =
+    omega (arith, stands_zones _ _ _ _ c.in_ok-sum.ensures, ap (λ (w : WorkTerms). zone_count w.system) c.new-work.ensures)

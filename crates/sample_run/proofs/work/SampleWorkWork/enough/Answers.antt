@@ -1,4 +1,4 @@
-use Rattle.std.proofs.Common.{ap, ◌∙◌, arith, Option, ℕ}
+use Rattle.std.proofs.Common.{ap, ◌∙◌, arith, ℕ}
 use Rattle.sample_totals.specs.declared.estimates.Sums.{Sums}
 use Rattle.sample_totals.specs.Estimates.{is_enough}
 use Rattle.sample_run.specs.SampleWorks.{WorkTerms}
