@@ -1,5 +1,5 @@
 -- How the hours of a run reach recorders.
-use Rattle.std.proofs.Common.{◌≡◌, ℕ, zero, suc, ◌+◌, ◌<◌, List, [], ◌∷◌, ◌++◌, length, map, refl, ap, sym, ◌∙◌, subst, arith, add-one}
+use Rattle.std.proofs.Common.{◌≡◌, ℕ, zero, suc, ◌+◌, ◌<◌, List, [], ◌∷◌, ◌++◌, map, refl, ap, sym, ◌∙◌, subst, arith, add-one}
 use Rattle.std.proofs.lemmas.List.{flat_map_more, append-nil}
 use Rattle.system_model.specs.System.{SystemParts, hour_count}
 use Rattle.outage_chronology.specs.Outages.{is_up}
@@ -9,7 +9,7 @@ use Rattle.sample_totals.specs.Recorders.{Seen, with_line}
 use Rattle.cut_certificate.specs.Chain.{all_unserved}
 use Rattle.cut_certificate.specs.Least.{IsLeastUnserved}
 use Rattle.sample_run.specs.HourNetwork.{network_of}
-use Rattle.sample_run.specs.Run.{IsHour, energies_before, outcome_at}
+use Rattle.sample_run.specs.Run.{IsHour, energies_before}
 use Rattle.sample_run.specs.Moments.{Moment, up_in}
 use Rattle.sample_run.specs.Trace.{AreFirstHours, with_lines, with_line_before, HasLines, HasBroken}
 use Rattle.sample_run.proofs.RunLaws.{run-only}

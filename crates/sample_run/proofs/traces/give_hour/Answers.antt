@@ -1,6 +1,5 @@
-use Rattle.std.proofs.Common.{◌≡◌, ℕ, map, length, ap, sym, ◌∙◌, subst, arith}
+use Rattle.std.proofs.Common.{map, sym, ◌∙◌, arith}
 use Rattle.std.proofs.lemmas.List.{length-map}
-use Rattle.ra_base.specs.Causes.{Counts}
 use Rattle.sample_run.proofs.TraceSteps.{same-at, line-at, counts-at}
 use Rattle.sample_run.proofs.traces.give_hour.Goals as goal
 

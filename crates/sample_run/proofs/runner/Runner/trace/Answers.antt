@@ -1,13 +1,11 @@
-use Rattle.std.proofs.Common.{◌≡◌, ℕ, ◌+◌, ◌-◌, ◌<◌, List, map, length, refl, ap, sym, ◌∙◌, subst, arith}
+use Rattle.std.proofs.Common.{◌≡◌, ℕ, ◌-◌, ◌<◌, map, ap, sym, ◌∙◌, arith}
 use Rattle.std.proofs.lemmas.Result.{err_from_is_err_and}
 use Rattle.system_model.specs.System.{SystemParts, zone_count, hour_count}
 use Rattle.sample_totals.specs.declared.outcomes.HourOutcome.{HourOutcome}
 use Rattle.sample_run.specs.Run.{Simulation}
 use Rattle.sample_run.specs.Moments.{Moment}
-use Rattle.sample_run.specs.Trace.{place_of, hour_of, HasBroken}
-use Rattle.sample_run.specs.declared.traces.TraceError.{TraceError}
-use Rattle.sample_run.proofs.RunSteps.{Stands}
-use Rattle.sample_run.proofs.TraceRuns.{IsNext, next-first, next-next, traced-more, traced-broken, traced-last}
+use Rattle.sample_run.specs.Trace.{place_of, hour_of}
+use Rattle.sample_run.proofs.TraceRuns.{next-first, next-next, traced-more, traced-broken, traced-last}
 use Rattle.sample_run.proofs.runner.Runner.trace.Goals as goal
 
 pub returns-in_err-give_hour-clause-err : goal.returns-in_err-give_hour-clause-err
