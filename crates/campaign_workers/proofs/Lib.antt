@@ -1,0 +1,4 @@
+pub mod WorkLaws
+pub mod CrewLaws
+pub mod StandLaws
+pub mod RoundLaws
