@@ -2,3 +2,4 @@ pub mod WorkLaws
 pub mod CrewLaws
 pub mod StandLaws
 pub mod RoundLaws
+pub mod StudyLaws

@@ -19,14 +19,14 @@ use Rattle.campaign_core.specs.Machine.{gate_after}
 use Rattle.campaign_core.proofs.Totals.{weight-none, weight-more, total-nil, total-one, same_trans}
 use Rattle.campaign_core.proofs.WithoutLaws.{is_same-self, has-nil, has-cons, has-without}
 use Rattle.campaign_core.proofs.RunLaws.{runs_same}
-use Rattle.campaign_core.proofs.HistoryLaws.{gate_push, calls-nil, calls-append}
+use Rattle.campaign_core.proofs.HistoryLaws.{gate-nil, gate_push, ranges-nil, calls-nil, calls-append}
 use Rattle.campaign_core.proofs.GivenLaws.{calls_push_own, some_owner, owned_given, all_deposited}
 use Rattle.turn_book.specs.declared.view.View.{View}
 use Rattle.turn_book.specs.Views.{IsSound, IsSameSeat}
 use Rattle.turn_book.proofs.SoundLaws.{every_call, own_deposit, gate_seen}
 use Rattle.campaign.specs.declared.calls.Extend.{Extend as Extension}
 use Rattle.campaign.specs.declared.calls.Extend.TheVariants.{Cancelled as Closed, Sealed as Shut, TooMany as Over, Now as Raised, Moved as Crossed}
-use Rattle.campaign.specs.Passes.{Says, Extends}
+use Rattle.campaign.specs.Passes.{IsFirst, Says, Extends}
 use Rattle.campaign.proofs.PassLaws.{deposits_apart, runs_stand}
 use Rattle.campaign_workers.specs.Working.{is_work, AreWork}
 use Rattle.campaign_workers.specs.Crews.{Joins, CrewWorks, Reached}
@@ -128,6 +128,16 @@ no_range [] none = refl
 no_range (r ∷ rs) none = absurd (false≢true (sym (none r) ∙ (has-cons r rs r ∙ or_left (is_same r r) (has_range rs r) (is_same-self r))))
 
 module _ {B : Type 0} where
+  -- where it was just opened
+  pub stands_first : (v : View B) (samples block : ℕ) → IsFirst samples block v → StandsAt 0 samples v
+  stands_first v samples block first = record {
+    alone = record { number = first.number; all = ap (λ l. length l + 1) first.joined ∙ sym first.made };
+    gate = ap (λ h. gate_of v.target h) first.seen ∙ (gate-nil v.target ∙ ap (open_gate 0) first.target);
+    none = λ r.
+        ap (λ h. has_range (out_of h) r) first.calls
+        ∙ (has-without (deposits_of []) (ranges_of []) r ∙ rw (ranges-nil, has-nil r) refl);
+  }
+
   alone_calls : (v : View B) → IsSound v → IsAlone v → (n : ℕ) → calls_of n v.seen ≡ calls_of n v.calls
   alone_calls v sound alone = every_call v sound alone.number alone.all
 

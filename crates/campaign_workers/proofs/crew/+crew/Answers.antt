@@ -1,4 +1,4 @@
-use Rattle.std.proofs.Common.{rules, ◌≡◌, ◌+◌, ◌≤◌, ◌<◌, true, false, All, IfSome, Some, length, option_to_list, refl, ap, sym, ◌∙◌, subst, arith}
+use Rattle.std.proofs.Common.{rules, ◌≡◌, ◌+◌, ◌≤◌, ◌<◌, true, false, All, IfSome, Some, length, option_to_list, [], ◌∷◌, ◌++◌, refl, ap, sym, ◌∙◌, subst, arith}
 use Rattle.std.proofs.lemmas.Bool.{or_parts}
 use Rattle.std.proofs.lemmas.List.{length_push}
 use Rattle.std.proofs.lemmas.List.Elements.{All-same, All-push, All-pop}
@@ -72,5 +72,5 @@ returns-clause-reached g t c e some =
 pub returns-clause-jobs : goal.returns-clause-jobs
 returns-clause-jobs g t c =
     let P = λ (j : g.row.J.Denot). g.J.Job.serves j (work_of c.args.campaign.now) in
-    All-same P c.push_reserved.new.self.items _ c.push_reserved.ensures.items
+    All-same P c.push_reserved.new.self.items (c.join-other.result.1.jobs.items ++ c.join-other.result.0.2 ∷ []) c.push_reserved.ensures.items
     (All-push P c.join-other.result.1.jobs.items c.join-other.result.0.2 c.join-other.ensures.second.1.1.1.1.1 c.join-other.ensures.first.1.1)
