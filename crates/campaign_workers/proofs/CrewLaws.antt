@@ -1,27 +1,24 @@
 -- One worker more in a crew: what the crew did with it.
-use Rattle.std.proofs.Common.{◌≡◌, ◌||◌, ℕ, ◌+◌, ◌<◌, ◌⊎◌, inl, inr, true, false, Bool, List, [], ◌∷◌, ◌++◌, length, min, ◌-◌, refl, ap, sym, ◌∙◌, subst, arith, append_assoc, length-append}
+use Rattle.std.proofs.Common.{◌≡◌, ◌||◌, ℕ, ◌+◌, ◌⊎◌, inl, inr, true, false, Bool, List, [], ◌∷◌, ◌++◌, length, min, ◌-◌, refl, ap, sym, ◌∙◌, subst, arith, append_assoc, length-append}
 use Rattle.std.proofs.lemmas.Bool.{false≢true}
 use Rattle.std.proofs.lemmas.List.{append-nil, length_push}
 use mathlib.Core.List.{IsPrefix}
-use Rattle.campaign_core.specs.declared.run.SampleRange.{SampleRange}
-use Rattle.campaign_core.specs.declared.gate.Gate.{Gate}
 use Rattle.campaign_core.specs.declared.call.Call.TheVariants.{Claim, Cancel}
 use Rattle.campaign_core.specs.declared.call.Reply.{Reply}
 use Rattle.campaign_core.specs.declared.call.Reply.TheVariants.{Range, Idle as IsIdle, Drained as IsDrained, Cancelled as IsCancelled, Marked}
-use Rattle.campaign_core.specs.declared.call.Entry.{Entry}
 use Rattle.campaign_core.specs.Ranges.{has_range}
-use Rattle.campaign_core.specs.History.{entry, claim_reply, gate_of, ranges_of, deposits_of, out_of}
+use Rattle.campaign_core.specs.History.{entry, gate_of, ranges_of, deposits_of, out_of}
 use Rattle.campaign_core.proofs.WithoutLaws.{has-nil, has-without}
 use Rattle.campaign_core.proofs.HistoryLaws.{ranges-nil, prefix_self, prefix_trans, prefix_append}
 use Rattle.campaign_core.proofs.MachineLaws.{claim_cases}
 use Rattle.turn_book.specs.declared.view.View.{View}
 use Rattle.turn_book.specs.Views.{newcomer, with_made, IsSameSeat, TakesIn}
-use Rattle.campaign.specs.Passes.{HasBoth, Says}
+use Rattle.campaign.specs.Passes.{HasBoth}
 use Rattle.campaign_workers.specs.declared.working.WorkEnd.{WorkEnd}
 use Rattle.campaign_workers.specs.declared.working.WorkEnd.TheVariants.{Idle, Drained, Cancelled, OutOfMemory}
-use Rattle.campaign_workers.specs.Working.{is_short, Works, Stops, DidWork}
+use Rattle.campaign_workers.specs.Working.{is_short, Stops, DidWork}
 use Rattle.campaign_workers.specs.Crews.{Joins, CrewWorks, Reached}
-use Rattle.campaign_workers.proofs.WorkLaws.{work_both, stops_works, seen_says, same_says, same_then}
+use Rattle.campaign_workers.proofs.WorkLaws.{work_both, stops_works, same_says, same_then}
 
 -- a list without its last element
 pub one_fewer : {J : Type 0} (all rest : List J) (last : J) → all ≡ rest ++ last ∷ [] → length rest + 1 ≡ length all

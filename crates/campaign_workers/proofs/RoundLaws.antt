@@ -1,8 +1,8 @@
 -- The rounds of a study, up to the one at which it ends.
-use Rattle.std.proofs.Common.{◌≡◌, ℕ, zero, suc, ◌+◌, ◌-◌, ◌*◌, ◌<◌, ◌≤◌, ◌⊎◌, inl, inr, ⊎_elim, Bool, true, false, min, refl, ap, sym, ◌∙◌, subst, arith}
+use Rattle.std.proofs.Common.{◌≡◌, ℕ, ◌+◌, ◌-◌, ◌*◌, ◌<◌, ◌≤◌, inl, inr, ⊎_elim, Bool, true, false, min, ap, ◌∙◌, arith}
 use Rattle.std.proofs.lemmas.Bool.{cases_lt}
 use Rattle.std.proofs.lemmas.Nat.{mul-le}
-use Rattle.campaign_workers.specs.Rounds.{IsEnoughRound, IsStudyEnd}
+use Rattle.campaign_workers.specs.Rounds.{IsStudyEnd}
 
 -- the study has come to a round with so many samples, and they were enough at none before it
 pub record IsRound (samples most : ℕ) (enough : ℕ → Bool) (goal : ℕ) : Type 0 where

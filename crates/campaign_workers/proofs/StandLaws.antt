@@ -1,8 +1,7 @@
 -- What a round, a report and an extension come to, while the opening pass is all that there is.
-use Rattle.std.proofs.Common.{◌≡◌, ◌≢◌, ◌&&◌, ◌||◌, ◌==◌, ℕ, zero, suc, ◌+◌, ◌-◌, ◌<◌, ◌≤◌, ◌⊎◌, inl, inr, Bool, true, false, not, cond, List, [], ◌∷◌, ◌++◌, length, map, min, nat_lt, refl, ap, sym, ◌∙◌, subst, arith, append_assoc, length-append}
+use Rattle.std.proofs.Common.{◌≡◌, ◌||◌, ◌==◌, ℕ, zero, suc, ◌+◌, ◌≤◌, inl, inr, Bool, true, false, not, cond, List, [], ◌∷◌, ◌++◌, length, map, nat_lt, refl, ap, sym, ◌∙◌, subst, arith, append_assoc, length-append}
 use Rattle.std.proofs.lemmas.Bool.{and_parts, ne_eqb, false≢true, false_from_ne_true, ltb-true, or_left}
 use Rattle.std.proofs.lemmas.List.{append-nil, nil_from_length}
-use mathlib.Core.List.{IsPrefix}
 use Rattle.ra_base.specs.declared.limits.TheConstants.{MOST_SAMPLES}
 use Rattle.campaign_core.specs.declared.run.SampleRange.{SampleRange}
 use Rattle.campaign_core.specs.declared.run.Run.{Run}
@@ -13,10 +12,10 @@ use Rattle.campaign_core.specs.declared.call.Call.TheVariants.{Progress as AskPr
 use Rattle.campaign_core.specs.declared.call.Reply.{Reply}
 use Rattle.campaign_core.specs.declared.call.Reply.TheVariants.{Cancelled, Now, Sealed, TooMany, Interim}
 use Rattle.campaign_core.specs.declared.call.Entry.{Entry}
-use Rattle.campaign_core.specs.Ranges.{range, is_same, samples_of, has_range, weight_of, total, AreSame, runs_of}
-use Rattle.campaign_core.specs.History.{entry, range_in, deposit_in, raised_in, is_seal, is_cancel, extend_reply, reply_of, gate_of, ranges_of, deposits_of, out_of, calls_of}
+use Rattle.campaign_core.specs.Ranges.{range, is_same, samples_of, has_range, weight_of, AreSame, runs_of}
+use Rattle.campaign_core.specs.History.{entry, extend_reply, reply_of, gate_of, ranges_of, deposits_of, out_of, calls_of}
 use Rattle.campaign_core.specs.Machine.{gate_after}
-use Rattle.campaign_core.proofs.Totals.{weight-none, weight-more, total-nil, total-one, same_trans}
+use Rattle.campaign_core.proofs.Totals.{weight-more, total-nil, total-one, same_trans}
 use Rattle.campaign_core.proofs.WithoutLaws.{is_same-self, has-nil, has-cons, has-without}
 use Rattle.campaign_core.proofs.RunLaws.{runs_same}
 use Rattle.campaign_core.proofs.HistoryLaws.{gate-nil, gate_push, ranges-nil, calls-nil, calls-append}
@@ -27,7 +26,7 @@ use Rattle.turn_book.proofs.SoundLaws.{every_call, own_deposit, gate_seen}
 use Rattle.campaign.specs.declared.calls.Extend.{Extend as Extension}
 use Rattle.campaign.specs.declared.calls.Extend.TheVariants.{Cancelled as Closed, Sealed as Shut, TooMany as Over, Now as Raised, Moved as Crossed}
 use Rattle.campaign.specs.Passes.{IsFirst, Says, Extends}
-use Rattle.campaign.proofs.PassLaws.{deposits_apart, runs_stand}
+use Rattle.campaign.proofs.PassLaws.{deposits_apart}
 use Rattle.campaign_workers.specs.Working.{is_work, AreWork}
 use Rattle.campaign_workers.specs.Crews.{Joins, CrewWorks, Reached}
 use Rattle.campaign_workers.specs.Standing.{open_gate, IsAlone, StandsAt}
@@ -156,9 +155,10 @@ module _ {B : Type 0} where
       ∙ (calls-append n v.calls crew.done ∙ ap (λ l. l ++ calls_of n crew.done) (sym (alone_calls v sound alone n)))))) in
       subst AreWork (sym (after_same (calls_of n v.seen) (calls_of n rest) (calls_of n crew.done) seen)) (work_calls n crew.done crew.work))
 
-  pub stands_round : (v w : View B) (workers : ℕ) → IsSound v → IsSound w → w.target ≡ v.target → Joins workers v w → CrewWorks v w → Reached v w
+  pub stands_round : (v w : View B) (workers opening : ℕ) → IsSound v → IsSound w → v.target ≡ opening → w.target ≡ opening → Joins workers v w → CrewWorks v w → Reached v w
       → (next goal : ℕ) → StandsAt next goal v → StandsAt goal goal w
-  stands_round v w workers sound sound_w target joins crew reached next goal stands =
+  stands_round v w workers opening sound sound_w opened opened_w joins crew reached next goal stands =
+      let target : w.target ≡ v.target = opened_w ∙ sym opened in
       let alone_w : IsAlone w = record {
         number = joins.number ∙ stands.alone.number;
         all = omega (arith, joins.joined, joins.made, stands.alone.all);

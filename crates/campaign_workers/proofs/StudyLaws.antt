@@ -1,5 +1,5 @@
 -- What a report on a whole round tells, and what an extension then comes to.
-use Rattle.std.proofs.Common.{◌≡◌, ◌==◌, ◌&&◌, ℕ, ◌+◌, ◌≤◌, Bool, false, not, List, [], ◌∷◌, length, map, refl, ap, sym, ◌∙◌, subst}
+use Rattle.std.proofs.Common.{◌≡◌, ◌==◌, ◌&&◌, ℕ, ◌+◌, ◌≤◌, Bool, false, not, List, [], ◌∷◌, length, map, ap, sym, ◌∙◌, subst}
 use Rattle.ra_base.specs.declared.limits.TheConstants.{MOST_SAMPLES}
 use Rattle.campaign_core.specs.declared.gate.Gate.{Gate}
 use Rattle.campaign_core.specs.declared.run.Run.{Run}

@@ -1,9 +1,7 @@
 -- Worked stretches of a pass: how they are put together, and what is out behind them.
-use Rattle.std.proofs.Common.{◌≡◌, ◌&&◌, ◌||◌, ℕ, ◌+◌, ◌≤◌, inl, inr, Bool, true, false, not, List, [], ◌∷◌, ◌++◌, refl, ap, sym, ◌∙◌, subst, arith, append_assoc}
-use Rattle.std.proofs.lemmas.Bool.{cases_Bool, false≢true}
+use Rattle.std.proofs.Common.{◌≡◌, ◌&&◌, ◌||◌, ℕ, Bool, true, false, not, List, [], ◌∷◌, ◌++◌, refl, ap, sym, ◌∙◌, subst, arith, append_assoc}
 use Rattle.std.proofs.lemmas.List.{append-nil}
 use mathlib.Core.List.{IsPrefix}
-use Rattle.campaign_core.specs.declared.run.SampleRange.{SampleRange}
 use Rattle.campaign_core.specs.declared.gate.Gate.{Gate}
 use Rattle.campaign_core.specs.declared.call.Call.{Call}
 use Rattle.campaign_core.specs.declared.call.Call.TheVariants.{Claim, Deposit}
@@ -13,7 +11,7 @@ use Rattle.campaign_core.specs.declared.call.Entry.{Entry}
 use Rattle.campaign_core.specs.Ranges.{range, is_same, has_range, times}
 use Rattle.campaign_core.specs.History.{entry, range_in, deposit_in, ranges_of, deposits_of, out_of}
 use Rattle.campaign_core.proofs.Totals.{times-append}
-use Rattle.campaign_core.proofs.WithoutLaws.{same_is, is_same-self, has-nil, has-one, has-append, has-without, has_times, first_inside}
+use Rattle.campaign_core.proofs.WithoutLaws.{has-one, has-append, has-without, has_times, first_inside}
 use Rattle.campaign_core.proofs.HistoryLaws.{ranges_push, deposits_push, prefix_self, prefix_trans, prefix_append}
 use Rattle.turn_book.specs.declared.view.View.{View}
 use Rattle.turn_book.specs.Views.{IsSameSeat, IsSound}
@@ -21,7 +19,7 @@ use Rattle.campaign.specs.Passes.{Saw, Says, Moves}
 use Rattle.campaign.proofs.ApartLaws.{own_apart, own_filled}
 use Rattle.campaign_workers.specs.declared.working.WorkEnd.{WorkEnd}
 use Rattle.campaign_workers.specs.declared.working.WorkEnd.TheVariants.{Idle, Drained, Cancelled, OutOfMemory}
-use Rattle.campaign_workers.specs.Working.{is_work, AreWork, SameOut, Works, Stops, GivesUp, DidWork}
+use Rattle.campaign_workers.specs.Working.{is_work, AreWork, SameOut, Works, Stops, DidWork}
 
 pub work_both : (xs ys : List Entry) → AreWork xs → AreWork ys → AreWork (xs ++ ys)
 work_both [] ys a b = b

@@ -1,8 +1,6 @@
-use Rattle.std.proofs.Common.{rules, ◌≡◌, ◌+◌, ◌≤◌, ◌<◌, true, false, All, IfSome, Some, length, option_to_list, [], ◌∷◌, ◌++◌, refl, ap, sym, ◌∙◌, subst, arith}
+use Rattle.std.proofs.Common.{rules, ◌≡◌, ◌+◌, IfSome, length, [], ◌∷◌, ◌++◌, ap, sym, ◌∙◌, subst, arith}
 use Rattle.std.proofs.lemmas.Bool.{or_parts}
-use Rattle.std.proofs.lemmas.List.{length_push}
 use Rattle.std.proofs.lemmas.List.Elements.{All-same, All-push, All-pop}
-use denote.Param.Send.{sendable}
 use Rattle.turn_book.proofs.SeatLemmas.{owns_self}
 use Rattle.turn_book.specs.declared.view.View.{View}
 use Rattle.campaign.specs.Passes.{pass_of, work_of}

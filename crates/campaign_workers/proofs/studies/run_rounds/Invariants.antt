@@ -1,4 +1,4 @@
-use Rattle.std.proofs.Common.{◌≡◌, ℕ, ◌+◌, ◌-◌, ◌*◌, ◌≤◌, All, length}
+use Rattle.std.proofs.Common.{ℕ, ◌+◌, ◌-◌, ◌*◌, ◌≤◌, All, length}
 use Rattle.campaign.specs.Passes.{pass_of, work_of, IsOf}
 use Rattle.campaign_workers.specs.Standing.{StandsAt}
 use Rattle.campaign_workers.specs.Studies.{is_enough_below}
