@@ -4,10 +4,11 @@ ghost use Rattle.ra_base.specs.declared.limits.TheConstants.{MOST_SAMPLES, MOST_
 use crate::{WorkEnd, Worked, study, work};
 use campaign::Campaign;
 use campaign_core::{Done, Job, SampleRange, Share, Work};
-use ra_base::{NoPause, OutOfMemory};
+use ra_base::{NoPause, OutOfMemory, Pause};
 use std::alloc::Global;
 use std::process::Abort;
 use std::sync::Wait;
+use std::sync::atomic::{AtomicU64, Ordering};
 use std::test::Fail;
 use std::thread::Threads;
 
@@ -96,6 +97,18 @@ impl Job<Listing> for Lister {
     }
 }
 
+// Counts the samples that it was told of.
+#[derive(Drop)]
+struct Counted {
+    samples: AtomicU64,
+}
+
+impl Pause for Counted {
+    fn before(&self, _first: u32, count: u32) {
+        self.samples.fetch_add(u64::from(count), Ordering::SeqCst);
+    }
+}
+
 // The ranges of a study with so many workers, in order.
 fn studied<R: Threads + Wait + Sync>(
     rt: &R,
@@ -164,14 +177,18 @@ fn workers_end_by_their_last_claim(rt: HostRuntime) -> Result<(), Fail> {
         panic!(rt; "no memory")
     };
     let mut job = Lister { finds: true };
-    let Worked { mut pass, end } = work(&rt, alloc, &campaign, pass, &mut job, &NoPause, false);
+    let pause = Counted {
+        samples: AtomicU64::new(0),
+    };
+    let Worked { mut pass, end } = work(&rt, alloc, &campaign, pass, &mut job, &pause, false);
     assert!(rt; end == WorkEnd::Idle);
     campaign.seal(&mut pass);
-    let Worked { mut pass, end } = work(&rt, alloc, &campaign, pass, &mut job, &NoPause, true);
+    let Worked { mut pass, end } = work(&rt, alloc, &campaign, pass, &mut job, &pause, true);
     assert!(rt; end == WorkEnd::Drained);
     campaign.cancel(&mut pass);
-    let Worked { pass, end } = work(&rt, alloc, &campaign, pass, &mut job, &NoPause, true);
+    let Worked { pass, end } = work(&rt, alloc, &campaign, pass, &mut job, &pause, true);
     assert!(rt; end == WorkEnd::Cancelled);
+    assert_eq!(rt; pause.samples.load(Ordering::SeqCst), 5);
     let Ok(end) = campaign.finish(pass) else {
         panic!(rt; "not finished")
     };

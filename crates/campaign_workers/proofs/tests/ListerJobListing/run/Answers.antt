@@ -1,5 +1,4 @@
 use Rattle.std.proofs.Common.{◌≡◌, [], ◌∷◌, ◌++◌, refl, ap, ◌∙◌, arith}
-use Rattle.campaign_core.specs.declared.run.SampleRange.{SampleRange}
 use Rattle.campaign_core.specs.Ranges.{range, total}
 use Rattle.campaign_core.proofs.Totals.{total-one}
 use Rattle.campaign_core.proofs.MachineLaws.{weight-ones}

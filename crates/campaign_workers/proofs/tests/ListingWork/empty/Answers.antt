@@ -1,4 +1,4 @@
-use Rattle.std.proofs.Common.{◌∙◌, ap, sym}
+use Rattle.std.proofs.Common.{ap, sym}
 use Rattle.campaign_core.specs.Ranges.{total}
 use Rattle.campaign_core.proofs.Totals.{total-nil}
 use Rattle.campaign_workers.proofs.tests.ListingWork.empty.Goals as goal
