@@ -1,0 +1,3 @@
+pub mod MadeSystem
+pub mod PlainTables
+pub mod MadeTables
