@@ -1,5 +1,6 @@
 pub mod TextLaws
 pub mod MadeLaws
+pub mod PooledLaws
 pub mod RowLaws
 pub mod PlainRecords
 pub mod PlainFields
