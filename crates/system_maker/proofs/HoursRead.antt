@@ -1,5 +1,5 @@
 -- The plain tables of load and of variable generation are read as the hours.
-use Rattle.std.proofs.Common.{◌≡◌, ℕ, zero, suc, ◌+◌, ◌<◌, ◌≤◌, ◌==◌, ◌^◌, Bool, true, false, List, [], ◌∷◌, ◌++◌, length, take, map, get_or, codes, sum, Option, Some, None, Ok, refl, sym, ap, ◌∙◌, arith, add-one}
+use Rattle.std.proofs.Common.{◌≡◌, ℕ, zero, suc, ◌+◌, ◌<◌, ◌≤◌, Bool, true, false, List, [], ◌∷◌, ◌++◌, length, take, map, get_or, codes, sum, Option, Some, None, Ok, refl, sym, ap, ◌∙◌, arith, add-one}
 use Rattle.std.specs.List.{range_with_len}
 use Rattle.std.specs.Prelude.{All}
 use Rattle.std.proofs.lemmas.Bool.{and_from, ne_eqb, eq-eqb, le-ltb}
@@ -18,7 +18,7 @@ use Rattle.system_tables.specs.declared.faults.Column.{Column}
 use Rattle.system_tables.specs.declared.faults.Column.TheVariants.{Fixed, Zone}
 use Rattle.system_tables.specs.Columns.{found_column}
 use Rattle.system_tables.specs.Faults.{in_turn, table_in, below}
-use Rattle.system_tables.specs.Hours.{ZoneColumns, HoursAbove, hours_above, amount_column_in, next_column_in, hour_order_in, amount_in, next_amount_in, row_within_in, hour_in, hour_rows_in, amounts_in, some_hour_in, all_hours_in, variables_in, hours_of, with_hours}
+use Rattle.system_tables.specs.Hours.{ZoneColumns, HoursAbove, hours_above, amount_column_in, next_column_in, hour_order_in, amount_in, next_amount_in, row_within_in, hour_in, hour_rows_in, amounts_in, some_hour_in, all_hours_in, variables_in, with_hours}
 use Rattle.system_tables.specs.Names.{Names}
 use Rattle.system_tables.specs.Records.{Row, Rows}
 use Rattle.system_tables.proofs.HourLaws.{next_amount-ok}
@@ -136,12 +136,14 @@ unfolding hour_in
 step table limit n all hour room few lt zones within =
     let size : length (take hour all) ≡ hour = length-take-le hour all (omega arith) in
     let width : length (row_of hour (get_or all hour [])) ≡ suc n = omega (arith, length-map (get_or all hour []) whole_text) in
-    rw (shape_read table (length (take hour all)) limit (length (take hour all)) (suc n) (row_of hour (get_or all hour [])) (omega arith) width,
+    rw (
+      shape_read table (length (take hour all)) limit (length (take hour all)) (suc n) (row_of hour (get_or all hour [])) (omega arith) width,
       value_read table (length (take hour all)) (Fixed 0) 0 hour (row_of hour (get_or all hour [])) refl (omega arith),
       order_read table (length (take hour all)) (Fixed 0) hour,
       ← zones,
       amounts_read table (length (take hour all)) hour (get_or all hour []) within,
-      row_within table (length (take hour all)) (sum (get_or all hour [])) within)
+      row_within table (length (take hour all)) (sum (get_or all hour [])) within,
+    )
     (λ i. Ok (hours_above (wanted_next hour i) (sym (take_more all hour [] lt) i)))
 
 -- ---- a table
@@ -189,7 +191,7 @@ plain_row which s p hour lt =
     let amounts : List ℕ = series_amounts which (hour_at s hour) in
     record {
       plain = and_from (is_plain (whole_text hour)) (are_plain (map whole_text amounts)) (whole_plain hour (omega arith))
-      (maps_plain amounts (All-from_get_or (λ (mw : ℕ). mw ≤ MOST_POOLED_MW) amounts 0 (λ k below_end. within_at amounts k told.within below_end)));
+          (maps_plain amounts (All-from_get_or (λ (mw : ℕ). mw ≤ MOST_POOLED_MW) amounts 0 (λ k below_end. within_at amounts k told.within below_end)));
       some = decimal_nonempty hour (omega arith);
     }
 
@@ -248,8 +250,10 @@ variables_read : (s : SystemParts) → IsPlainSystem s
 unfolding variables_in
 variables_read s p =
     let size : length (amounts_told series.Variable s) ≡ hour_count s = length-map s.hours (series_amounts series.Variable) in
-    rw (series_read series.Variable false Variable (hour_count s) s p (omega arith) p.valid.within.hours.most,
-      all_read (length (amounts_told series.Variable s)) (hour_count s) (omega arith)) refl
+    rw (
+      series_read series.Variable false Variable (hour_count s) s p (omega arith) p.valid.within.hours.most,
+      all_read (length (amounts_told series.Variable s)) (hour_count s) (omega arith),
+    ) refl
 
 pub hours_read : (s : SystemParts) → IsPlainSystem s
     → with_hours (to_storages s) (hour_table series.Load s) (Some (hour_table series.Variable s)) ≡ Ok s
@@ -257,6 +261,10 @@ unfolding with_hours
 hours_read s p =
     let size : length (amounts_told series.Load s) ≡ hour_count s = length-map s.hours (series_amounts series.Load) in
     let some : 0 < hour_count s = p.valid.hour in
-    rw (series_read series.Load true Load MOST_HOURS s p p.valid.within.hours.most (omega arith),
-      some_read (length (amounts_told series.Load s)) (omega arith), size, variables_read s p)
+    rw (
+      series_read series.Load true Load MOST_HOURS s p p.valid.within.hours.most (omega arith),
+      some_read (length (amounts_told series.Load s)) (omega arith),
+      size,
+      variables_read s p,
+    )
     (λ i. Ok (record (to_storages s) { hours = hours_told s i }))

@@ -1,5 +1,5 @@
 -- The plain table of interfaces is read as the interfaces.
-use Rattle.std.proofs.Common.{◌≡◌, ℕ, ◌+◌, ◌<◌, ◌≤◌, List, [], ◌∷◌, ◌++◌, length, take, codes, Ok, Some, refl, sym, ap, ◌∙◌, arith}
+use Rattle.std.proofs.Common.{◌≡◌, ℕ, ◌+◌, ◌<◌, ◌≤◌, [], ◌∷◌, length, take, codes, Ok, refl, sym, ap, ◌∙◌, arith}
 use Rattle.std.proofs.lemmas.Bool.{ne_eqb}
 use Rattle.std.proofs.lemmas.List.{length-take-le, take_more, take_all}
 use Rattle.std.proofs.lemmas.List.Elements.{All-get_or}
@@ -35,10 +35,13 @@ plain_row s p k lt =
     let interface = among s p k lt in
     let name : IsName (interface_name_at s k) = name_at s.interface_names k p.valid.within.interfaces.named.each (named s p k lt) in
     record {
-      plain = rw (p.interfaces.plain k (named s p k lt), p.zones.plain (interface_at s k).from interface.start,
+      plain = rw (
+        p.interfaces.plain k (named s p k lt),
+        p.zones.plain (interface_at s k).from interface.start,
         p.zones.plain (interface_at s k).to interface.end,
         whole_plain (interface_at s k).forward (omega (arith, interface.forward)),
-        whole_plain (interface_at s k).backward (omega (arith, interface.backward))) refl;
+        whole_plain (interface_at s k).backward (omega (arith, interface.backward)),
+      ) refl;
       some = name.some;
     }
 
@@ -47,11 +50,13 @@ of_row : (s : SystemParts) → IsPlainSystem s → (count k : ℕ) → k < inter
 unfolding interface_of interface_row
 of_row s p count k lt =
     let interface = among s p k lt in
-    rw (reference_read Interfaces count (Fixed 1) 1 s.zone_names (interface_at s k).from (interface_row s k) refl p.zones.apart interface.start,
+    rw (
+      reference_read Interfaces count (Fixed 1) 1 s.zone_names (interface_at s k).from (interface_row s k) refl p.zones.apart interface.start,
       reference_read Interfaces count (Fixed 2) 2 s.zone_names (interface_at s k).to (interface_row s k) refl p.zones.apart interface.end,
       whole_read Interfaces count (Fixed 3) 3 0 MOST_LINK_MW (interface_at s k).forward (interface_row s k) refl (omega arith) interface.forward (omega (arith, interface.forward)),
       whole_read Interfaces count (Fixed 4) 4 0 MOST_LINK_MW (interface_at s k).backward (interface_row s k) refl (omega arith) interface.backward (omega (arith, interface.backward)),
-      ne_eqb (interface_at s k).from (interface_at s k).to interface.apart) refl
+      ne_eqb (interface_at s k).from (interface_at s k).to interface.apart,
+    ) refl
 
 step : (s : SystemParts) → IsPlainSystem s → (k : ℕ) → k < interface_count s
     → interface_in (record { name = found_column (Fixed 0) 0; start = found_column (Fixed 1) 1; end = found_column (Fixed 2) 2; forward = found_column (Fixed 3) 3; backward = found_column (Fixed 4) 4 }) 5 (interfaces_to s k) (interface_row s k) ≡ Ok (interfaces_to s (k + 1))
@@ -60,9 +65,11 @@ step s p k lt =
     let size : length (take k s.interfaces) ≡ k = length-take-le k s.interfaces (omega arith) in
     let few : interface_count s ≤ MOST_INTERFACES = p.valid.within.interfaces.most in
     let name : IsName (interface_name_at s k) = name_at s.interface_names k p.valid.within.interfaces.named.each (named s p k lt) in
-    rw (shape_read Interfaces (length (take k s.interfaces)) MOST_INTERFACES (length (take k s.interfaces)) 5 (interface_row s k) (omega arith) refl,
+    rw (
+      shape_read Interfaces (length (take k s.interfaces)) MOST_INTERFACES (length (take k s.interfaces)) 5 (interface_row s k) (omega arith) refl,
       name_read Interfaces (length (take k s.interfaces)) (Fixed 0) 0 s.interface_names k (interface_row s k) refl name p.interfaces.apart (named s p k lt),
-      of_row s p (length (take k s.interfaces)) k lt)
+      of_row s p (length (take k s.interfaces)) k lt,
+    )
     (λ i. Ok (record (to_units s) {
       interfaces = sym (take_more s.interfaces k no_interface lt) i;
       interface_names = sym (take_more s.interface_names k [] (named s p k lt)) i;

@@ -1,5 +1,5 @@
 -- The plain table of lines is read as the lines.
-use Rattle.std.proofs.Common.{◌≡◌, ℕ, ◌+◌, ◌<◌, ◌≤◌, List, [], ◌∷◌, ◌++◌, length, take, codes, Ok, Some, refl, sym, ap, ◌∙◌, arith}
+use Rattle.std.proofs.Common.{◌≡◌, ℕ, ◌+◌, ◌<◌, ◌≤◌, [], ◌∷◌, length, take, codes, Ok, refl, sym, ap, ◌∙◌, arith}
 use Rattle.std.proofs.lemmas.List.{length-take-le, take_more, take_all}
 use Rattle.std.proofs.lemmas.List.Elements.{All-get_or}
 use Rattle.csv.specs.Reading.{strip_bom}
@@ -40,11 +40,14 @@ plain_row s p k lt =
     let line = among s p k lt in
     let name : IsName (line_name_at s k) = name_at s.line_names k p.valid.within.lines.named.each (named s p k lt) in
     record {
-      plain = rw (p.lines.plain k (named s p k lt), p.interfaces.plain (line_at s k).interface (linked s p k lt),
+      plain = rw (
+        p.lines.plain k (named s p k lt),
+        p.interfaces.plain (line_at s k).interface (linked s p k lt),
         whole_plain (line_at s k).forward (omega (arith, line.forward)),
         whole_plain (line_at s k).backward (omega (arith, line.backward)),
         fixed_plain (line_at s k).rates.f 9 (omega (arith, line.rates.failure)),
-        fixed_plain (line_at s k).rates.r 9 (omega (arith, line.rates.repair))) refl;
+        fixed_plain (line_at s k).rates.r 9 (omega (arith, line.rates.repair)),
+      ) refl;
       some = name.some;
     }
 
@@ -53,11 +56,13 @@ of_row : (s : SystemParts) → IsPlainSystem s → (count k : ℕ) → k < line_
 unfolding line_of line_row
 of_row s p count k lt =
     let line = among s p k lt in
-    rw (reference_read Lines count (Fixed 1) 1 s.interface_names (line_at s k).interface (line_row s k) refl p.interfaces.apart (linked s p k lt),
+    rw (
+      reference_read Lines count (Fixed 1) 1 s.interface_names (line_at s k).interface (line_row s k) refl p.interfaces.apart (linked s p k lt),
       whole_read Lines count (Fixed 2) 2 0 MOST_LINK_MW (line_at s k).forward (line_row s k) refl (omega arith) line.forward (omega (arith, line.forward)),
       whole_read Lines count (Fixed 3) 3 0 MOST_LINK_MW (line_at s k).backward (line_row s k) refl (omega arith) line.backward (omega (arith, line.backward)),
       rates_read Lines count (Fixed 4) (Fixed 5) 4 5 (line_at s k).rates (line_row s k) refl refl line.rates,
-      some_rate_read Lines count (Fixed 4) (Fixed 5) 4 5 (line_at s k).rates line.rates) refl
+      some_rate_read Lines count (Fixed 4) (Fixed 5) 4 5 (line_at s k).rates line.rates,
+    ) refl
 
 step : (s : SystemParts) → IsPlainSystem s → (k : ℕ) → k < line_count s
     → line_in (record { name = found_column (Fixed 0) 0; interface = found_column (Fixed 1) 1; forward = found_column (Fixed 2) 2; backward = found_column (Fixed 3) 3; rates = record { failure = found_column (Fixed 4) 4; repair = found_column (Fixed 5) 5 } }) 6 (lines_to s k) (line_row s k) ≡ Ok (lines_to s (k + 1))
@@ -66,9 +71,11 @@ step s p k lt =
     let size : length (take k s.lines) ≡ k = length-take-le k s.lines (omega arith) in
     let few : line_count s ≤ MOST_LINES = p.valid.within.lines.most in
     let name : IsName (line_name_at s k) = name_at s.line_names k p.valid.within.lines.named.each (named s p k lt) in
-    rw (shape_read Lines (length (take k s.lines)) MOST_LINES (length (take k s.lines)) 6 (line_row s k) (omega arith) refl,
+    rw (
+      shape_read Lines (length (take k s.lines)) MOST_LINES (length (take k s.lines)) 6 (line_row s k) (omega arith) refl,
       name_read Lines (length (take k s.lines)) (Fixed 0) 0 s.line_names k (line_row s k) refl name p.lines.apart (named s p k lt),
-      of_row s p (length (take k s.lines)) k lt)
+      of_row s p (length (take k s.lines)) k lt,
+    )
     (λ i. Ok (record (to_interfaces s) {
       lines = sym (take_more s.lines k no_line lt) i;
       line_names = sym (take_more s.line_names k [] (named s p k lt)) i;

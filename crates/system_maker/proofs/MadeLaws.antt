@@ -1,14 +1,12 @@
 -- Lists of made parts that grow by one place, and what they have together.
-use Rattle.std.proofs.Common.{◌≡◌, ℕ, ◌+◌, ◌<◌, ◌≤◌, ◌^◌, List, [], ◌∷◌, ◌++◌, length, refl, arith}
-use Rattle.std.specs.List.{range_with_len}
+use Rattle.std.proofs.Common.{◌≡◌, ℕ, ◌+◌, ◌<◌, ◌^◌, [], ◌∷◌, ◌++◌, length, refl, arith}
 use Rattle.std.proofs.lemmas.Fmt.{length-decimal-le}
 use Rattle.std.proofs.lemmas.List.FromFn.{length-map-range_with_len, map-range_with_len_more, sum_by-map-range_with_len_more}
 use Rattle.system_model.specs.declared.components.Unit.{Unit as UnitPart}
-use Rattle.system_model.specs.declared.components.Line.{Line}
 use Rattle.system_model.specs.declared.components.Storage.{Storage}
 use Rattle.system_model.specs.Components.{pooled_capacity, pooled_charge, pooled_discharge}
 use Rattle.system_model.specs.System.{IsName}
-use Rattle.system_maker.specs.MadeSystem.{made_name, made_names, made_unit, made_units, made_line, made_lines, made_storage, made_storages, made_hour, made_hours, made_load, made_variable}
+use Rattle.system_maker.specs.MadeSystem.{made_name, made_names, made_unit, made_units, made_line, made_lines, made_storage, made_storages, made_hour, made_hours}
 
 pub names-none : (letter : ℕ) → made_names letter 0 ≡ []
 unfolding made_names

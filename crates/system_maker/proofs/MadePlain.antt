@@ -1,17 +1,17 @@
 -- The names of a made system are plain and apart.
-use Rattle.std.proofs.Common.{◌≡◌, ℕ, ◌+◌, ◌<◌, ◌≤◌, ◌%◌, ◌^◌, true, List, [], ◌∷◌, length, get_or, codes, refl, sym, ap, ◌∙◌, arith}
+use Rattle.std.proofs.Common.{◌≡◌, ℕ, ◌<◌, ◌≤◌, ◌%◌, ◌^◌, true, List, [], ◌∷◌, length, get_or, sym, ap, ◌∙◌, arith}
 use Rattle.std.proofs.lemmas.Bool.{and_from, le-leb}
 use Rattle.std.proofs.lemmas.Fmt.{decimal_injective}
 use Rattle.std.proofs.lemmas.List.FromFn.{get_or-map-range_with_len}
 use Rattle.decimal_text.specs.DecimalText.{whole_text}
-use Rattle.system_model.specs.System.{SystemParts, IsValid}
+use Rattle.system_model.specs.System.{IsValid}
 use Rattle.system_tables.specs.Tables.{Reads}
 use Rattle.system_maker.specs.MadeSystem.{made_name, made_names, system_of_variant, made_system}
 use Rattle.system_maker.specs.MadeTables.{made_tables}
 use Rattle.system_maker.proofs.MadeLaws.{names-counted}
 use Rattle.system_maker.proofs.PlainRecords.{is_plain}
 use Rattle.system_maker.proofs.PlainFields.{whole_plain}
-use Rattle.system_maker.proofs.PlainNames.{AreApart, AreNoHours}
+use Rattle.system_maker.proofs.PlainNames.{AreNoHours}
 use Rattle.system_maker.proofs.PlainSystems.{ArePlainNames, IsPlainSystem}
 use Rattle.system_maker.proofs.SystemRead.{plain_read}
 
@@ -33,13 +33,13 @@ names_plain letter n high small =
     let size : length (made_names letter n) ≡ n = names-counted letter n in
     record {
       plain = λ k lt.
-      let among : k < n = omega arith in
-      rw (name_is letter n k among) (plain_name letter k high (omega arith));
+          let among : k < n = omega arith in
+          rw (name_is letter n k among) (plain_name letter k high (omega arith));
       apart = record {
         same = λ i k below lt e.
-        let first : i < n = omega arith in
-        let second : k < n = omega arith in
-        same_name letter i k (omega arith) (omega arith) (sym (name_is letter n i first) ∙ e ∙ name_is letter n k second);
+            let first : i < n = omega arith in
+            let second : k < n = omega arith in
+            same_name letter i k (omega arith) (omega arith) (sym (name_is letter n i first) ∙ e ∙ name_is letter n k second);
       };
     }
 

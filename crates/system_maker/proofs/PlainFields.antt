@@ -1,5 +1,5 @@
 -- Fields that were written plainly are read as what was written.
-use Rattle.std.proofs.Common.{◌≡◌, ◌≢◌, ℕ, zero, suc, ◌+◌, ◌-◌, ◌*◌, ◌/◌, ◌%◌, ◌^◌, ◌<◌, ◌≤◌, ◌==◌, ◌&&◌, true, false, List, [], ◌∷◌, ◌++◌, length, get_or, Ok, refl, sym, ap, ◌∙◌, append_assoc, arith}
+use Rattle.std.proofs.Common.{◌≡◌, ℕ, zero, suc, ◌+◌, ◌-◌, ◌*◌, ◌/◌, ◌%◌, ◌^◌, ◌<◌, ◌≤◌, ◌==◌, ◌&&◌, true, false, List, [], ◌∷◌, ◌++◌, length, get_or, Ok, refl, ap, ◌∙◌, arith}
 use Rattle.std.specs.Prelude.{decimal, replicate}
 use Rattle.std.specs.Str.Parse.{AllDigits}
 use Rattle.std.proofs.lemmas.Bool.{and_parts, and_from, and_left, le-ltb, le-leb, lt-leb, eq-eqb, ne_eqb}
@@ -7,8 +7,8 @@ use Rattle.std.proofs.lemmas.Fmt.{decimal_is_IsNumeral_wide, length-decimal-le_w
 use Rattle.std.proofs.lemmas.List.{length-append, length-replicate}
 use Rattle.std.proofs.lemmas.Str.{digit_value_digit}
 use Rattle.std.proofs.lemmas.Str.Parse.{digit_from_value}
-use Rattle.decimal_text.specs.Numeral.{Numeral, behind_point, lowered, top, bottom, Spells}
-use Rattle.decimal_text.specs.Reading.{whole_of, billionths_of}
+use Rattle.decimal_text.specs.Numeral.{behind_point, lowered, top, bottom}
+use Rattle.decimal_text.specs.Reading.{billionths_of}
 use Rattle.decimal_text.specs.DecimalText.{whole_text, padded_text, fixed_text}
 use Rattle.decimal_text.proofs.Laws.{billionths_only}
 use Rattle.decimal_text.proofs.TenPowers.{ten_some}
@@ -92,9 +92,12 @@ three_again value le =
     let few = three_length value le in
     let some = ten_some (length (behind_point n) + lowered n.exponent) in
     let is : value * 1000000 * bottom n ≡ 10 ^ 9 * top n = three_worth value (bottom n) (top n) worth in
-    billionths_only (fixed_text value 3) (Ok (value * 1000000))
-    (n, record { length = record { some = few.0; few = few.1 }; spells = sp },
-      record { at_least = omega (arith, is); less_than_more = omega (arith, is) }, omega arith)
+    billionths_only (fixed_text value 3) (Ok (value * 1000000)) (
+      n,
+      record { length = record { some = few.0; few = few.1 }; spells = sp },
+      record { at_least = omega (arith, is); less_than_more = omega (arith, is) },
+      omega arith,
+    )
 
 ranged_is : (table : TableName) (count : ℕ) (column : Column) (low most value : ℕ) → low ≤ value → value ≤ most
     → ranged (below table count) column low most value ≡ Ok value
@@ -144,8 +147,10 @@ pub rates_read : (table : TableName) (count : ℕ) (failure repair : Column) (at
     → rates_in (below table count) (record { failure = found_column failure at; repair = found_column repair behind }) row ≡ Ok rates
 unfolding rates_in
 rates_read table count failure repair at behind rates row f r are =
-    rw (probability_read table count failure at rates.f row f are.failure,
-      probability_read table count repair behind rates.r row r are.repair) refl
+    rw (
+      probability_read table count failure at rates.f row f are.failure,
+      probability_read table count repair behind rates.r row r are.repair,
+    ) refl
 
 both_zero : (f r : ℕ) → 0 < f + r → ((f == 0) && (r == 0)) ≡ false
 both_zero zero r some = ne_eqb r 0 (λ e. absurd (omega arith))

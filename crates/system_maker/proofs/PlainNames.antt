@@ -1,7 +1,7 @@
 -- Names that differ from one another are told apart where tables are read.
-use Rattle.std.proofs.Common.{◌≡◌, ◌≢◌, ℕ, zero, suc, ◌+◌, ◌<◌, ◌≤◌, ◌==◌, true, false, List, [], ◌∷◌, length, get_or, take, Some, Ok, refl, sym, ap, ◌∙◌, arith, position}
-use Rattle.std.specs.List.{list_any, position_or_len}
-use Rattle.std.specs.Prelude.{All, codes}
+use Rattle.std.proofs.Common.{◌≡◌, ℕ, zero, suc, ◌+◌, ◌<◌, true, false, List, [], ◌∷◌, length, get_or, take, Some, Ok, refl, sym, ap, ◌∙◌, arith, position}
+use Rattle.std.specs.List.{position_or_len}
+use Rattle.std.specs.Prelude.{codes}
 use Rattle.std.specs.Str.{bytes_eq}
 use Rattle.std.proofs.lemmas.Bool.{false_from_ne_true, lt-ltb, le-ltb, ne_eqb}
 use Rattle.std.proofs.lemmas.List.{get_or-take, length-take-le}
@@ -60,8 +60,12 @@ pub name_read : (table : TableName) (count : ℕ) (column : Column) (at : ℕ) (
     → name_in (below table count) (found_column column at) (take k names) row ≡ Ok (get_or names k [])
 unfolding name_in name_bytes_in
 name_read table count column at names k row is name apart below =
-    rw (is, ne_eqb (length (get_or names k [])) 0 (λ e. absurd (omega (arith, name.some))),
-      le-ltb MOST_NAME_BYTES (length (get_or names k [])) name.short, not_among names k apart below) refl
+    rw (
+      is,
+      ne_eqb (length (get_or names k [])) 0 (λ e. absurd (omega (arith, name.some))),
+      le-ltb MOST_NAME_BYTES (length (get_or names k [])) name.short,
+      not_among names k apart below,
+    ) refl
 
 pub zone_name_read : (table : TableName) (count : ℕ) (column : Column) (at : ℕ) (names : Names) (k : ℕ) (row : Row)
     → get_or row at [] ≡ get_or names k []

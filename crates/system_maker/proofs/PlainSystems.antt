@@ -1,8 +1,8 @@
 -- A system that can be written plainly, and the parts of it that are read one after the other.
-use Rattle.std.proofs.Common.{◌≡◌, ℕ, ◌<◌, ◌≤◌, true, List, [], length, get_or, take, arith}
+use Rattle.std.proofs.Common.{◌≡◌, ℕ, ◌<◌, true, [], length, get_or, take}
 use Rattle.std.specs.Prelude.{All}
 use Rattle.std.proofs.lemmas.List.Elements.{All-get_or}
-use Rattle.system_model.specs.System.{SystemParts, IsName, IsValid, AreNames, no_parts}
+use Rattle.system_model.specs.System.{SystemParts, IsName, IsValid, no_parts}
 use Rattle.system_tables.specs.Names.{Names}
 use Rattle.system_maker.proofs.PlainRecords.{is_plain}
 use Rattle.system_maker.proofs.PlainNames.{AreApart, AreNoHours}

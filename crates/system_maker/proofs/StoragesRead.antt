@@ -1,5 +1,5 @@
 -- The plain table of storages is read as the storages.
-use Rattle.std.proofs.Common.{◌≡◌, ℕ, ◌+◌, ◌<◌, ◌≤◌, List, [], ◌∷◌, ◌++◌, length, take, codes, Ok, Some, refl, sym, ap, ◌∙◌, arith}
+use Rattle.std.proofs.Common.{◌≡◌, ℕ, ◌+◌, ◌<◌, ◌≤◌, [], ◌∷◌, length, take, codes, Ok, refl, sym, ap, ◌∙◌, arith}
 use Rattle.std.proofs.lemmas.Bool.{le-ltb}
 use Rattle.std.proofs.lemmas.List.{length-take-le, take_more, take_all}
 use Rattle.std.proofs.lemmas.List.Elements.{All-get_or}
@@ -37,7 +37,9 @@ plain_row s p k lt =
     let storage = among s p k lt in
     let name : IsName (storage_name_at s k) = name_at s.storage_names k p.valid.within.storages.named.each (named s p k lt) in
     record {
-      plain = rw (p.storages.plain k (named s p k lt), p.zones.plain (storage_at s k).zone storage.zone,
+      plain = rw (
+        p.storages.plain k (named s p k lt),
+        p.zones.plain (storage_at s k).zone storage.zone,
         whole_plain (storage_at s k).charge (omega (arith, storage.charge)),
         whole_plain (storage_at s k).discharge (omega (arith, storage.discharge)),
         whole_plain (storage_at s k).energy (omega (arith, storage.energy)),
@@ -46,7 +48,8 @@ plain_row s p k lt =
         fixed_plain (storage_at s k).discharge_eff 3 (omega (arith, storage.discharge_eff.most)),
         fixed_plain (storage_at s k).carry 3 (omega (arith, storage.carry.most)),
         fixed_plain (storage_at s k).rates.f 9 (omega (arith, storage.rates.failure)),
-        fixed_plain (storage_at s k).rates.r 9 (omega (arith, storage.rates.repair))) refl;
+        fixed_plain (storage_at s k).rates.r 9 (omega (arith, storage.rates.repair)),
+      ) refl;
       some = name.some;
     }
 
@@ -55,7 +58,8 @@ of_row : (s : SystemParts) → IsPlainSystem s → (count k : ℕ) → k < stora
 unfolding storage_of storage_row
 of_row s p count k lt =
     let storage = among s p k lt in
-    rw (reference_read Storages count (Fixed 1) 1 s.zone_names (storage_at s k).zone (storage_row s k) refl p.zones.apart storage.zone,
+    rw (
+      reference_read Storages count (Fixed 1) 1 s.zone_names (storage_at s k).zone (storage_row s k) refl p.zones.apart storage.zone,
       whole_read Storages count (Fixed 2) 2 0 MOST_POOLED_MW (storage_at s k).charge (storage_row s k) refl (omega arith) storage.charge (omega (arith, storage.charge)),
       whole_read Storages count (Fixed 3) 3 0 MOST_POOLED_MW (storage_at s k).discharge (storage_row s k) refl (omega arith) storage.discharge (omega (arith, storage.discharge)),
       whole_read Storages count (Fixed 4) 4 0 MOST_ENERGY_KWH (storage_at s k).energy (storage_row s k) refl (omega arith) storage.energy (omega (arith, storage.energy)),
@@ -65,7 +69,8 @@ of_row s p count k lt =
       share_read Storages count (Fixed 8) 8 (storage_at s k).carry (storage_row s k) refl storage.carry.some storage.carry.most,
       rates_read Storages count (Fixed 9) (Fixed 10) 9 10 (storage_at s k).rates (storage_row s k) refl refl storage.rates,
       le-ltb (storage_at s k).energy (storage_at s k).start storage.start,
-      some_rate_read Storages count (Fixed 9) (Fixed 10) 9 10 (storage_at s k).rates storage.rates) refl
+      some_rate_read Storages count (Fixed 9) (Fixed 10) 9 10 (storage_at s k).rates storage.rates,
+    ) refl
 
 step : (s : SystemParts) → IsPlainSystem s → (k : ℕ) → k < storage_count s
     → storage_in (record { name = found_column (Fixed 0) 0; zone = found_column (Fixed 1) 1; charge = found_column (Fixed 2) 2; discharge = found_column (Fixed 3) 3; energy = found_column (Fixed 4) 4; start = found_column (Fixed 5) 5; charge_eff = found_column (Fixed 6) 6; discharge_eff = found_column (Fixed 7) 7; carry = found_column (Fixed 8) 8; rates = record { failure = found_column (Fixed 9) 9; repair = found_column (Fixed 10) 10 } }) 11 (storages_to s k) (storage_row s k) ≡ Ok (storages_to s (k + 1))
@@ -78,11 +83,13 @@ step s p k lt =
     omega (arith, sum_by_more_le (λ (storage : Storage). storage.charge) s.storages k no_storage lt, p.valid.within.storages.charge) in
     let discharge : pooled_discharge (take k s.storages) + (storage_at s k).discharge ≤ MOST_POOLED_MW =
     omega (arith, sum_by_more_le (λ (storage : Storage). storage.discharge) s.storages k no_storage lt, p.valid.within.storages.discharge) in
-    rw (shape_read Storages (length (take k s.storages)) MOST_STORAGES (length (take k s.storages)) 11 (storage_row s k) (omega arith) refl,
+    rw (
+      shape_read Storages (length (take k s.storages)) MOST_STORAGES (length (take k s.storages)) 11 (storage_row s k) (omega arith) refl,
       name_read Storages (length (take k s.storages)) (Fixed 0) 0 s.storage_names k (storage_row s k) refl name p.storages.apart (named s p k lt),
       of_row s p (length (take k s.storages)) k lt,
       le-ltb MOST_POOLED_MW (pooled_charge (take k s.storages) + (storage_at s k).charge) charge,
-      le-ltb MOST_POOLED_MW (pooled_discharge (take k s.storages) + (storage_at s k).discharge) discharge)
+      le-ltb MOST_POOLED_MW (pooled_discharge (take k s.storages) + (storage_at s k).discharge) discharge,
+    )
     (λ i. Ok (record (to_lines s) {
       storages = sym (take_more s.storages k no_storage lt) i;
       storage_names = sym (take_more s.storage_names k [] (named s p k lt)) i;

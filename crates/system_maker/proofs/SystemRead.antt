@@ -1,5 +1,4 @@
 -- The plain tables of a system are read as the system.
-use Rattle.std.proofs.Common.{◌≡◌, Ok, refl}
 use Rattle.system_model.specs.System.{SystemParts}
 use Rattle.system_tables.specs.Tables.{where_there, system_of, Reads}
 use Rattle.system_maker.specs.PlainTables.{plain_tables}

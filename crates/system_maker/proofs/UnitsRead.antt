@@ -1,5 +1,5 @@
 -- The plain table of units is read as the units.
-use Rattle.std.proofs.Common.{◌≡◌, ℕ, ◌+◌, ◌<◌, ◌≤◌, List, [], ◌∷◌, ◌++◌, length, take, codes, Ok, refl, sym, ap, ◌∙◌, arith}
+use Rattle.std.proofs.Common.{◌≡◌, ℕ, ◌+◌, ◌<◌, ◌≤◌, [], ◌∷◌, length, take, codes, Ok, refl, sym, ap, ◌∙◌, arith}
 use Rattle.std.proofs.lemmas.Bool.{le-ltb}
 use Rattle.std.proofs.lemmas.List.{length-take-le, take_more, take_all}
 use Rattle.std.proofs.lemmas.List.Elements.{All-get_or}
@@ -8,19 +8,17 @@ use Rattle.csv.specs.Reading.{strip_bom}
 use Rattle.ra_base.specs.declared.limits.TheConstants.{MOST_UNITS, MOST_POOLED_MW}
 use Rattle.ra_base.specs.declared.table.TableName.TheVariants.{Units}
 use Rattle.system_model.specs.declared.components.Unit.{Unit as UnitPart}
-use Rattle.system_model.specs.System.{SystemParts, IsName, IsUnitAmong, AreUnits, zone_count, unit_count, unit_at, unit_name_at, zone_name_at, pooled_capacity, no_unit}
+use Rattle.system_model.specs.System.{SystemParts, IsName, IsUnitAmong, zone_count, unit_count, unit_at, unit_name_at, pooled_capacity, no_unit}
 use Rattle.system_tables.specs.declared.faults.Column.TheVariants.{Fixed}
 use Rattle.system_tables.specs.Columns.{column_in, places_from, found_column}
 use Rattle.system_tables.specs.Faults.{table_in, below}
-use Rattle.system_tables.specs.Names.{Names}
 use Rattle.system_tables.specs.Records.{Rows}
 use Rattle.system_tables.specs.Units.{unit_columns_in, unit_of, unit_in, unit_rows_in, with_units}
-use Rattle.system_maker.specs.PlainTables.{unit_row, unit_header, unit_table, rate_text}
-use Rattle.system_maker.proofs.PlainRecords.{IsPlainRow, is_plain, table_read}
+use Rattle.system_maker.specs.PlainTables.{unit_row, unit_header, unit_table}
+use Rattle.system_maker.proofs.PlainRecords.{IsPlainRow, table_read}
 use Rattle.system_maker.proofs.PlainFields.{whole_plain, fixed_plain, shape_read, whole_read, rates_read, some_rate_read}
 use Rattle.system_maker.proofs.PlainNames.{name_read, reference_read}
 use Rattle.system_maker.proofs.PlainSystems.{IsPlainSystem, name_at, units_to, to_zones, to_units}
-
 use Rattle.system_maker.proofs.PlainTurns.{rows_in_turn}
 
 columns_read : unit_columns_in unit_header ≡ Ok (record { name = found_column (Fixed 0) 0; zone = found_column (Fixed 1) 1; capacity = found_column (Fixed 2) 2; rates = record { failure = found_column (Fixed 3) 3; repair = found_column (Fixed 4) 4 } })
@@ -39,10 +37,13 @@ plain_row s p k lt =
     let unit = among s p k lt in
     let name : IsName (unit_name_at s k) = name_at s.unit_names k p.valid.within.units.named.each (named s p k lt) in
     record {
-      plain = rw (p.units.plain k (named s p k lt), p.zones.plain (unit_at s k).zone unit.zone,
+      plain = rw (
+        p.units.plain k (named s p k lt),
+        p.zones.plain (unit_at s k).zone unit.zone,
         whole_plain (unit_at s k).capacity (omega (arith, unit.capacity)),
         fixed_plain (unit_at s k).rates.f 9 (omega (arith, unit.rates.failure)),
-        fixed_plain (unit_at s k).rates.r 9 (omega (arith, unit.rates.repair))) refl;
+        fixed_plain (unit_at s k).rates.r 9 (omega (arith, unit.rates.repair)),
+      ) refl;
       some = name.some;
     }
 
@@ -51,10 +52,12 @@ of_row : (s : SystemParts) → IsPlainSystem s → (count k : ℕ) → k < unit_
 unfolding unit_of unit_row
 of_row s p count k lt =
     let unit = among s p k lt in
-    rw (reference_read Units count (Fixed 1) 1 s.zone_names (unit_at s k).zone (unit_row s k) refl p.zones.apart unit.zone,
+    rw (
+      reference_read Units count (Fixed 1) 1 s.zone_names (unit_at s k).zone (unit_row s k) refl p.zones.apart unit.zone,
       whole_read Units count (Fixed 2) 2 0 MOST_POOLED_MW (unit_at s k).capacity (unit_row s k) refl (omega arith) unit.capacity (omega (arith, unit.capacity)),
       rates_read Units count (Fixed 3) (Fixed 4) 3 4 (unit_at s k).rates (unit_row s k) refl refl unit.rates,
-      some_rate_read Units count (Fixed 3) (Fixed 4) 3 4 (unit_at s k).rates unit.rates) refl
+      some_rate_read Units count (Fixed 3) (Fixed 4) 3 4 (unit_at s k).rates unit.rates,
+    ) refl
 
 step : (s : SystemParts) → IsPlainSystem s → (k : ℕ) → k < unit_count s
     → unit_in (record { name = found_column (Fixed 0) 0; zone = found_column (Fixed 1) 1; capacity = found_column (Fixed 2) 2; rates = record { failure = found_column (Fixed 3) 3; repair = found_column (Fixed 4) 4 } }) 5 (units_to s k) (unit_row s k) ≡ Ok (units_to s (k + 1))
@@ -65,10 +68,12 @@ step s p k lt =
     let name : IsName (unit_name_at s k) = name_at s.unit_names k p.valid.within.units.named.each (named s p k lt) in
     let pooled : pooled_capacity (take k s.units) + (unit_at s k).capacity ≤ MOST_POOLED_MW =
     omega (arith, sum_by_more_le (λ (unit : UnitPart). unit.capacity) s.units k no_unit lt, p.valid.within.units.pooled) in
-    rw (shape_read Units (length (take k s.units)) MOST_UNITS (length (take k s.units)) 5 (unit_row s k) (omega arith) refl,
+    rw (
+      shape_read Units (length (take k s.units)) MOST_UNITS (length (take k s.units)) 5 (unit_row s k) (omega arith) refl,
       name_read Units (length (take k s.units)) (Fixed 0) 0 s.unit_names k (unit_row s k) refl name p.units.apart (named s p k lt),
       of_row s p (length (take k s.units)) k lt,
-      le-ltb MOST_POOLED_MW (pooled_capacity (take k s.units) + (unit_at s k).capacity) pooled)
+      le-ltb MOST_POOLED_MW (pooled_capacity (take k s.units) + (unit_at s k).capacity) pooled,
+    )
     (λ i. Ok (record (to_zones s) {
       units = sym (take_more s.units k no_unit lt) i;
       unit_names = sym (take_more s.unit_names k [] (named s p k lt)) i;

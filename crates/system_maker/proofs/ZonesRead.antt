@@ -1,5 +1,5 @@
 -- The plain table of zones is read as the zones.
-use Rattle.std.proofs.Common.{◌≡◌, ℕ, ◌+◌, ◌<◌, ◌≤◌, List, [], ◌∷◌, length, take, codes, Ok, refl, sym, ap, ◌∙◌, arith}
+use Rattle.std.proofs.Common.{◌≡◌, ℕ, ◌+◌, ◌<◌, ◌≤◌, [], length, take, codes, Ok, refl, sym, ap, ◌∙◌, arith}
 use Rattle.std.proofs.lemmas.Bool.{ne_eqb}
 use Rattle.std.proofs.lemmas.List.{length-take-le, take_more, take_all}
 use Rattle.csv.specs.Reading.{strip_bom}
@@ -8,7 +8,7 @@ use Rattle.ra_base.specs.declared.table.TableName.TheVariants.{Zones}
 use Rattle.system_model.specs.System.{SystemParts, IsName, no_parts, zone_count, zone_name_at}
 use Rattle.system_tables.specs.declared.faults.Column.TheVariants.{Fixed}
 use Rattle.system_tables.specs.Columns.{column_in, places_from, found_column}
-use Rattle.system_tables.specs.Faults.{table_in, below}
+use Rattle.system_tables.specs.Faults.{table_in}
 use Rattle.system_tables.specs.Names.{Names}
 use Rattle.system_tables.specs.Records.{Rows}
 use Rattle.system_tables.specs.Zones.{zone_columns_in, zone_in, some_zone_in, zone_rows_in, with_zones}
@@ -35,8 +35,10 @@ step s p k lt =
     let size : length (take k s.zone_names) ≡ k = length-take-le k s.zone_names (omega arith) in
     let few : length s.zone_names ≤ MOST_ZONES = p.valid.within.zones in
     let name : IsName (zone_name_at s k) = name_at s.zone_names k p.valid.within.zone_names lt in
-    rw (shape_read Zones (length (take k s.zone_names)) MOST_ZONES (length (take k s.zone_names)) 1 (zone_row s k) (omega arith) refl,
-      zone_name_read Zones (length (take k s.zone_names)) (Fixed 0) 0 s.zone_names k (zone_row s k) refl name p.zones.apart lt (p.no_hours k lt))
+    rw (
+      shape_read Zones (length (take k s.zone_names)) MOST_ZONES (length (take k s.zone_names)) 1 (zone_row s k) (omega arith) refl,
+      zone_name_read Zones (length (take k s.zone_names)) (Fixed 0) 0 s.zone_names k (zone_row s k) refl name p.zones.apart lt (p.no_hours k lt),
+    )
     (ap (λ (names : Names). Ok (record no_parts { zone_names = names })) (sym (take_more s.zone_names k [] lt)))
 
 some_read : (s : SystemParts) → 0 < zone_count s → some_zone_in s ≡ Ok s

@@ -1,11 +1,8 @@
 -- The seven tables of a system, written plainly: no quotes and no spaces.
-use Rattle.std.specs.Prelude.{ℕ, List, [], ◌∷◌, ◌++◌, map, length, Some, codes}
+use Rattle.std.specs.Prelude.{ℕ, List, [], ◌∷◌, ◌++◌, map, Some, codes}
 use Rattle.std.specs.List.{range_with_len, flat_map}
 use Rattle.ra_base.specs.declared.table.TableBytes.{TableBytes}
 use Rattle.decimal_text.specs.DecimalText.{whole_text, fixed_text}
-use Rattle.system_model.specs.declared.components.Rates.{Rates}
-use Rattle.system_model.specs.declared.components.Interface.{Interface}
-use Rattle.system_model.specs.declared.components.Line.{Line}
 use Rattle.system_model.specs.declared.components.Storage.{Storage}
 use Rattle.system_model.specs.System.{SystemParts, HourAmounts, zone_count, unit_count, interface_count, line_count, storage_count, hour_count, zone_name_at, unit_name_at, interface_name_at, line_name_at, storage_name_at, unit_zone, unit_capacity, unit_rates, interface_at, line_at, storage_at, hour_at}
 use Rattle.system_tables.specs.Records.{Row}

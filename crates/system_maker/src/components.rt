@@ -8,13 +8,16 @@ use ra_base::OutOfMemory;
 use std::alloc::Global;
 use system_model::{Draft, Interface, Line, Rates, Storage, Unit};
 
-const ZONES: u32 = 3;
-const UNITS: u32 = 96;
-const LINES: u32 = 5;
-const STORAGES: u32 = 2;
+/// How many zones there are.
+pub(crate) const ZONES: u32 = 3;
 
-// The most MW of a unit.
-const MOST_UNIT_MW: u32 = 130;
+const UNITS: u32 = 96;
+
+const INTERFACES: u32 = 3;
+
+const LINES: u32 = 5;
+
+const STORAGES: u32 = 2;
 
 /// Adds the zones.
 #[tactic(auto, using(crate::proofs::MadeLaws::name_steps))]
@@ -55,7 +58,7 @@ fn unit_of(variant: u32, at: u32) -> Unit
     requires place { at < 96 }
     ensures unit { result ≡ made_unit variant at }
     ensures range { IsUnitAmong 3 result }
-    ensures capacity { result.capacity ≤ MOST_UNIT_MW }
+    ensures capacity { result.capacity ≤ 130 }
 {
     Unit {
         zone: (at % ZONES) as u8,
@@ -137,7 +140,7 @@ fn line_of(at: u32) -> Line
     ensures range { IsLineAmong 3 result }
 {
     Line {
-        interface: (at % 3) as u8,
+        interface: (at % INTERFACES) as u8,
         forward: 250,
         backward: 200,
         rates: Rates {

@@ -3,15 +3,12 @@ ghost use Rattle.std.specs.Prelude.{◌≡◌, ◌<◌, ◌≤◌, [], ◌∷◌
 ghost use Rattle.system_model.specs.System.{SystemParts, amounts_of, zone_count, hour_count};
 ghost use Rattle.system_maker.specs.MadeSystem.{made_load, made_variable, made_hour, made_hours};
 
+use crate::components::ZONES;
 use ra_base::{Amounts, OutOfMemory};
 use std::alloc::Global;
 use system_model::Draft;
 
-const ZONES: usize = 3;
 const HOURS: u32 = 8_784;
-
-// The most MW of load of a zone.
-const MOST_ZONE_MW: u32 = 2_140;
 
 /// Adds the hours.
 #[tactic(auto, using(crate::proofs::MadeLaws::hour_steps))]
@@ -21,8 +18,8 @@ pub(crate) fn add_hours(alloc: Global, variant: u32, draft: &mut Draft) -> Resul
     requires variant { variant < 1000 }
     ensures { OnOk result (draft.new ≡ record draft.old { hours = made_hours variant 8784 }) }
 {
-    let mut load = Amounts::zeros(alloc, ZONES)?;
-    let mut variable = Amounts::zeros(alloc, ZONES)?;
+    let mut load = Amounts::zeros(alloc, ZONES as usize)?;
+    let mut variable = Amounts::zeros(alloc, ZONES as usize)?;
     for hour in 0..HOURS {
         let mw = load_of(variant, hour);
         set_all(&mut load, mw, mw, mw);
@@ -37,7 +34,7 @@ fn load_of(variant: u32, hour: u32) -> u32
     requires variant { variant < 1000 }
     requires hour { hour < 8784 }
     ensures load { result ≡ made_load variant hour }
-    ensures most { result ≤ MOST_ZONE_MW }
+    ensures most { result ≤ 2140 }
 {
     let of_day = hour % 24;
     let day = hour / 24;

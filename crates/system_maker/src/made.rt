@@ -16,7 +16,8 @@ use system_model::{Draft, System};
 const VARIANTS: u64 = 1_000;
 
 /// The system that the number makes: three zones with 96 units of 7,200 MW together, three interfaces, five
-/// lines, two storages and 8,784 hours. Numbers that leave the same rest by 1,000 make the same one.
+/// lines, two storages and 8,784 hours. Numbers that leave the same rest by 1,000 make the same one. The rule is
+/// this suite's own. It is refused for want of memory alone.
 #[tactic(auto, unfolding(crate::specs::MadeSystem::system_of_variant), using(crate::proofs::MadeLaws::made_counts))]
 pub fn make(alloc: Global, number: u64) -> Result<System, OutOfMemory>
     ensures made { IfOk result (λ system. system ≡ made_system number) }
@@ -34,7 +35,8 @@ pub fn make(alloc: Global, number: u64) -> Result<System, OutOfMemory>
 }
 
 /// The seven tables of the system that the number makes, in the order of their definitions: commas between
-/// fields, a line feed behind each record, no quotes and no spaces. They are read as that system.
+/// fields, a line feed behind each record, no quotes and no spaces. They are read as that system. They are
+/// refused for want of memory alone.
 #[tactic(auto, using(crate::proofs::MadePlain::made_read))]
 pub fn make_tables(alloc: Global, number: u64) -> Result<TableBytes, OutOfMemory>
     ensures bytes { IfOk result (λ tables. tables ≡ made_tables number) }
