@@ -1,0 +1,17 @@
+pub mod TextLaws
+pub mod MadeLaws
+pub mod PooledLaws
+pub mod RowLaws
+pub mod PlainRecords
+pub mod PlainFields
+pub mod PlainNames
+pub mod PlainTurns
+pub mod PlainSystems
+pub mod ZonesRead
+pub mod UnitsRead
+pub mod InterfacesRead
+pub mod LinesRead
+pub mod StoragesRead
+pub mod HoursRead
+pub mod SystemRead
+pub mod MadePlain

@@ -1,0 +1,9 @@
+use Rattle.std.proofs.Common.{◌≡◌, ◌++◌}
+use Rattle.std.specs.List.{flat_map, range_with_len}
+use Rattle.system_maker.specs.PlainTables.{record_text, unit_header, unit_row}
+use Rattle.system_maker.proofs.tables.unit_table.Given as goal
+
+-- the records that were written so far
+abbrev pub invariant-loop-at : goal.invariant-loop-at
+invariant-loop-at l =
+    l.out ≡ record_text unit_header ++ flat_map (λ at. record_text (unit_row l.system at)) (range_with_len 0 l.at)

@@ -1,0 +1,4 @@
+pub mod MadeSystem
+pub mod PlainTables
+pub mod MadeTables
+pub mod WorkedRows
