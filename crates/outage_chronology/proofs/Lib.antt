@@ -1,3 +1,5 @@
+pub mod Passing
+pub mod MaskSteps
 pub mod RatesByKind
 pub mod Laws
 pub mod ThresholdLists

@@ -1,9 +1,9 @@
 -- What a chronology keeps.
-use Rattle.std.specs.Prelude.{◌≡◌, ℕ, ◌+◌, ◌*◌, ◌<◌, List, length, slice_index}
+use Rattle.std.specs.Prelude.{◌≡◌, ℕ, ◌+◌, ◌*◌, ◌<◌, ◌≤◌, List, length, slice_index}
 use Rattle.system_model.specs.System.{SystemParts, IsValid, hour_count}
 use Rattle.sample_streams.specs.Draw.{Draws}
 use Rattle.outage_chronology.specs.declared.thresholds.Thresholds.{Thresholds}
-use Rattle.outage_chronology.specs.Outages.{component_count, is_up}
+use Rattle.outage_chronology.specs.Outages.{component_count, is_up, changes_in}
 use Rattle.outage_chronology.specs.Masks.{up_mask}
 use Rattle.outage_chronology.specs.Thresholds.{AreThresholds}
 
@@ -12,8 +12,9 @@ pub record AreUpMasks (system : SystemParts) (seed sample hour : ℕ) (masks : L
   pub len : length masks ≡ component_count system
   pub each : (k : ℕ) → k < component_count system → slice_index masks k ≡ up_mask (is_up system seed sample hour k)
 
--- the draws stand behind those of the hour, and the masks are those of the hour
-pub record IsKept (system : SystemParts) (hour : ℕ) (draws : Draws) (thresholds : Thresholds) (words masks : List ℕ) : Type 0 where
+-- the draws stand behind those of the hour, the masks are those of the hour, and what changed with it is listed; the
+-- list has room for all components
+pub record IsKept (system : SystemParts) (hour : ℕ) (draws : Draws) (thresholds : Thresholds) (words masks changed : List ℕ) (space : ℕ) : Type 0 where
   pub valid : IsValid system
   pub in_range : hour < hour_count system
   pub components : draws.components ≡ component_count system
@@ -21,3 +22,5 @@ pub record IsKept (system : SystemParts) (hour : ℕ) (draws : Draws) (threshold
   pub room : length words ≡ component_count system
   pub decided : AreThresholds system thresholds
   pub up : AreUpMasks system draws.seed draws.sample hour masks
+  pub changes : changed ≡ changes_in system draws.seed draws.sample hour
+  pub room_for_all : component_count system ≤ space

@@ -1,5 +1,5 @@
 -- Up states as masks of 32 bits: all ones for a component that is up, 0 for one that is out.
-use Rattle.std.specs.Prelude.{◌≡◌, ℕ, Bool, not, nat_lt, ◌==◌, if◌then◌else◌, min}
+use Rattle.std.specs.Prelude.{◌≡◌, ℕ, Bool, true, not, nat_lt, ◌==◌, if◌then◌else◌, min}
 
 abbrev pub up_mask : Bool → ℕ
 up_mask up = if up then 4294967295 else 0
@@ -15,11 +15,18 @@ IsMask mask = mask ≡ up_mask (says_up mask)
 abbrev pub compared : ℕ → ℕ
 compared word = min word 4294967294
 
+-- whether a state changes, by a word and the thresholds of failure and repair
+abbrev pub turns : Bool → ℕ → ℕ → ℕ → Bool
+turns up word fails repaired = nat_lt (compared word) (if up then fails else repaired)
+
+-- the state after one that changes or stays
+abbrev pub turned : Bool → Bool → Bool
+turned up turns = if turns then not up else up
+
 -- the state after the one before, by a word and the thresholds of failure and repair
 abbrev pub next_state : Bool → ℕ → ℕ → ℕ → Bool
-next_state up word fails repaired =
-    if up then not (nat_lt (compared word) fails) else nat_lt (compared word) repaired
+next_state up word fails repaired = turned up (turns up word fails repaired)
 
--- the state at hour 0, by a word and the threshold of the start
+-- the state at hour 0, by a word and the threshold of the start: before it a component counts as up
 abbrev pub first_state : ℕ → ℕ → Bool
-first_state word starts_out = not (nat_lt (compared word) starts_out)
+first_state word starts_out = next_state true word starts_out starts_out

@@ -1,5 +1,6 @@
 -- Up states: a component is in service or out of it, hour by hour.
-use Rattle.std.specs.Prelude.{ℕ, zero, suc, ◌+◌, ◌*◌, ◌^◌, Bool, not, nat_lt, if◌then◌else◌, List, ◌++◌, map, slice_index_or}
+use Rattle.std.specs.Prelude.{ℕ, zero, suc, ◌+◌, ◌*◌, ◌^◌, Bool, true, not, nat_lt, if◌then◌else◌, List, ◌++◌, map, filter, slice_index_or}
+use Rattle.std.specs.List.{range_with_len}
 use Rattle.ra_base.specs.declared.limits.TheConstants.{BILLION}
 use Rattle.system_model.specs.declared.components.Rates.{Rates}
 use Rattle.system_model.specs.declared.components.Unit.{Unit as UnitPart}
@@ -53,3 +54,22 @@ is_up_with rates draws (suc hour) =
 unfoldable pub is_up : SystemParts → ℕ → ℕ → ℕ → ℕ → Bool
 is_up system seed sample hour component =
     is_up_with (component_rates system component) (λ h. draw (component_count system) seed sample h component) hour
+
+-- whether it was up before that hour: in the hour before, and before hour 0 each is
+abbrev pub was_up : SystemParts → ℕ → ℕ → ℕ → ℕ → Bool
+was_up system seed sample zero component = true
+was_up system seed sample (suc hour) component = is_up system seed sample hour component
+
+-- whether two states differ
+abbrev pub differ : Bool → Bool → Bool
+differ one other = if one then not other else other
+
+-- whether its state changes with that hour
+abbrev pub changes : SystemParts → ℕ → ℕ → ℕ → ℕ → Bool
+changes system seed sample hour component =
+    differ (was_up system seed sample hour component) (is_up system seed sample hour component)
+
+-- the components whose states change with that hour, ascending
+abbrev pub changes_in : SystemParts → ℕ → ℕ → ℕ → List ℕ
+changes_in system seed sample hour =
+    filter (changes system seed sample hour) (range_with_len 0 (component_count system))

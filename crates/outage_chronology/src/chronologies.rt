@@ -1,10 +1,10 @@
 ghost use Rattle.std.specs.Prelude.{◌≡◌, ℕ, ◌+◌, ◌*◌, ◌<◌, IfOk, length, slice_index};
 ghost use Rattle.system_model.specs.System.{IsValid, hour_count};
 ghost use Rattle.outage_chronology.specs.Outages.{component_count as count_of};
-ghost use Rattle.outage_chronology.specs.Standing.{is_up_at};
+ghost use Rattle.outage_chronology.specs.Standing.{is_up_at, changed_at};
 
 use crate::components::component_count;
-use crate::masks::{begin, go_on};
+use crate::masks::{go_on, set_all_up};
 use crate::thresholds::Thresholds;
 use ra_base::OutOfMemory;
 use sample_streams::SampleStream;
@@ -24,6 +24,7 @@ pub struct Chronology<'a> {
     thresholds: Thresholds,
     words: Vec<u32>,
     masks: Vec<u32>,
+    changed: Vec<u32>,
 }
 
 impl<'a> Model for Chronology<'a> {
@@ -31,6 +32,7 @@ impl<'a> Model for Chronology<'a> {
 
     ghost Value = { Standing };
 
+    ghost use Rattle.std.specs.Prelude.{vec_capacity};
     ghost use Rattle.outage_chronology.specs.Kept.{IsKept};
 
     ghost view = { λ c. record {
@@ -40,7 +42,8 @@ impl<'a> Model for Chronology<'a> {
       hour = c.hour;
     } };
 
-    ghost invariant = { λ c. IsKept c.system.now c.hour c.draws c.thresholds c.words.items c.masks.items };
+    ghost invariant = { λ c. IsKept c.system.now c.hour c.draws c.thresholds c.words.items c.masks.items
+        c.changed.items (vec_capacity c.changed) };
 }
 
 impl<'a> Chronology<'a> {
@@ -54,9 +57,12 @@ impl<'a> Chronology<'a> {
         let thresholds = Thresholds::of(alloc, system)?;
         let mut words = vec![in alloc; 0; count as usize]?;
         let mut masks = vec![in alloc; 0; count as usize]?;
+        let mut changed = Vec::with_capacity(alloc, count as usize)?;
         let mut draws = SampleStream::new(seed, count);
         draws.next_draws(&mut words);
-        begin(&mut masks, &words, &thresholds.starts_out);
+        set_all_up(&mut masks);
+        let starts_out = &thresholds.starts_out;
+        go_on(&mut masks, &mut words, starts_out, starts_out, &mut changed);
         Ok(Chronology {
             system,
             hour: 0,
@@ -64,6 +70,7 @@ impl<'a> Chronology<'a> {
             thresholds,
             words,
             masks,
+            changed,
         })
     }
 
@@ -73,7 +80,16 @@ impl<'a> Chronology<'a> {
     {
         self.draws.start(sample);
         self.draws.next_draws(&mut self.words);
-        begin(&mut self.masks, &self.words, &self.thresholds.starts_out);
+        // Before hour 0 each component counts as up.
+        set_all_up(&mut self.masks);
+        let starts_out = &self.thresholds.starts_out;
+        go_on(
+            &mut self.masks,
+            &mut self.words,
+            starts_out,
+            starts_out,
+            &mut self.changed,
+        );
         self.hour = 0;
     }
 
@@ -85,9 +101,10 @@ impl<'a> Chronology<'a> {
         self.draws.next_draws(&mut self.words);
         go_on(
             &mut self.masks,
-            &self.words,
+            &mut self.words,
             &self.thresholds.fails,
             &self.thresholds.is_repaired,
+            &mut self.changed,
         );
         self.hour += 1;
     }
@@ -108,6 +125,15 @@ impl<'a> Chronology<'a> {
         ensures { AreUpMasks self.now.system self.now.seed self.now.sample self.now.hour result.now }
     {
         &self.masks
+    }
+
+    /// The components whose state differs from that of the hour before, ascending. At hour 0 they are those
+    /// that are out.
+    #[inline]
+    pub fn changed(&self) -> &[u32]
+        ensures { result.now ≡ changed_at self.now }
+    {
+        &self.changed
     }
 
     /// The hour, counted from 0.

@@ -74,19 +74,21 @@ fn small_system(alloc: Global) -> Result<System, OutOfMemory> {
 }
 
 // The up states of both units, the storage and the line under seed 258, known from an independent
-// program with a ChaCha of its own.
-const SAMPLE_7: [[bool; 4]; 4] = [
-    [false, true, true, true],
-    [true, true, false, false],
-    [false, true, false, true],
-    [true, true, false, true],
+// program with a ChaCha of its own, and which of them differ from the hour before.
+type Hour = ([bool; 4], &'static [u32]);
+
+const SAMPLE_7: [Hour; 4] = [
+    ([false, true, true, true], &[0]),
+    ([true, true, false, false], &[0, 2, 3]),
+    ([false, true, false, true], &[0, 3]),
+    ([true, true, false, true], &[0]),
 ];
 
-const SAMPLE_0: [[bool; 4]; 4] = [
-    [false, true, false, true],
-    [true, true, false, true],
-    [false, true, true, true],
-    [true, true, true, false],
+const SAMPLE_0: [Hour; 4] = [
+    ([false, true, false, true], &[0, 2]),
+    ([true, true, false, true], &[0]),
+    ([false, true, true, true], &[0, 2]),
+    ([true, true, true, false], &[0, 3]),
 ];
 
 #[test]
@@ -104,8 +106,13 @@ fn components_are_up_as_an_independent_program_says(rt: HostRuntime) {
     is_shared(&chronology);
     for (sample, hours) in [(7, SAMPLE_7), (0, SAMPLE_0)] {
         chronology.start(sample);
-        for (hour, up) in [hours[0], hours[1], hours[2], hours[3]].iter().enumerate() {
+        for (hour, (up, changed)) in [hours[0], hours[1], hours[2], hours[3]].iter().enumerate() {
             assert_eq!(rt; chronology.hour() as usize, hour);
+            assert_eq!(rt;
+                chronology.changed(),
+                *changed,
+                "sample {sample} hour {hour}"
+            );
             assert_eq!(rt; chronology.up_masks().len(), 4);
             for component in 0..4 {
                 assert_eq!(rt;
