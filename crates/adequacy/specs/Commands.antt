@@ -51,6 +51,13 @@ is_built command.Trace = false
 is_built command.Trial = false
 is_built command.Console = false
 
+-- whether a request is one whose workers are waited for
+abbrev pub waits : Request → Bool
+waits (Study terms) = true
+waits (Trial number terms) = true
+waits (Console terms) = true
+waits request = false
+
 -- whether a request is one of a command that is built
 abbrev pub can_answer : Request → Bool
 can_answer (Trace terms) = false

@@ -97,6 +97,12 @@ Reports failure ends before now faults faults' = Tells (Err failure) ends before
 abbrev pub AnswerGained : Request → SystemParts → Option (List ℕ) → Option (List ℕ) → Type 0
 AnswerGained request system before now = (text : List ℕ) × IsAnswer request system text × Gained before now text
 
+-- a text was written whole, or its first part where the write failed
+abbrev pub IsWritten : List ℕ → Ending → Option (List ℕ) → Option (List ℕ) → Type 0
+IsWritten text (Ok done) before now = Gained before now text
+IsWritten text (Err WriteFault) before now = GainedPart before now text
+IsWritten text (Err failure) before now = ⊥
+
 -- how a request ends for a system, and what `out` has gained: its answer, a first part of that where the write
 -- failed, or nothing
 abbrev pub Answers : Request → SystemParts → Ending → Option (List ℕ) → Option (List ℕ) → Type 0

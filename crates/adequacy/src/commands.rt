@@ -1,15 +1,14 @@
 //! What each command answers: the bytes of its text for a system.
-ghost use Rattle.std.specs.Prelude.{◌≡◌, ◌<◌, ◌≤◌, IfOk, None, true};
+ghost use Rattle.std.specs.Prelude.{◌≡◌, ◌<◌, ◌≤◌, IfOk, None, true, false};
 ghost use Rattle.ra_base.specs.declared.limits.TheConstants.{MOST_POOLED_MW};
 ghost use Rattle.analytic_index.specs.Pool.{IsNewUnit, pool_of};
 ghost use Rattle.adequacy.specs.declared.words.request.Request.{Request};
 ghost use Rattle.index_text.specs.TableText.{table_text};
 ghost use Rattle.index_text.specs.IndexText.{index_text};
-ghost use Rattle.adequacy.specs.Commands.{IsAnswer, check_text, can_answer, is_built as built};
+ghost use Rattle.adequacy.specs.Commands.{IsAnswer, check_text, can_answer, waits, is_built as built};
 ghost use Rattle.adequacy.specs.LineParts.{LineParts};
 ghost use Rattle.adequacy.specs.Requests.{IsRequestOf};
 
-use crate::studies::make_study_text;
 use crate::words::{Command, CreditTerms, Request};
 use analytic_index::Analysis;
 use capacity_credit::{Steps, credit};
@@ -29,6 +28,7 @@ pub(crate) fn make_answer(
     request: Request,
 ) -> Result<Text, OutOfMemory>
     requires built { can_answer request ≡ true }
+    requires waits { waits request ≡ false }
     requires terms { (line : LineParts) × IsRequestOf line request }
     ensures { IfOk result (IsAnswer request system.now) }
 {
@@ -37,8 +37,8 @@ pub(crate) fn make_answer(
         Request::Table => make_table_text(alloc, system),
         Request::Index => make_index_text(alloc, system),
         Request::Credit(terms) => { make_credit_text::<Brand>(alloc, Blank::new(1), system, terms) }
-        Request::Study(terms) => make_study_text(alloc, system, terms),
-        Request::Trace(_) | Request::Trial { .. } | Request::Console(_) => unreachable!(),
+        Request::Trace(_) | Request::Study(_) => unreachable!(),
+        Request::Trial { .. } | Request::Console(_) => unreachable!(),
     }
 }
 

@@ -6,11 +6,13 @@ mod endings;
 mod studies;
 mod tables;
 mod top;
+mod waiting;
 mod words;
+mod writing;
 
 pub use endings::{Failure, Unread, report_unread};
 pub use tables::{FolderError, Refusal};
-pub use top::adequacy;
+pub use top::{adequacy, answer};
 pub use words::{
     Command, ConsoleTerms, CreditTerms, Line, Place, Request, StudyTerms, TraceTerms, WordFault,
     WordsError, put_word_fault, read_words,

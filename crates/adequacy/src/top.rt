@@ -5,7 +5,8 @@ ghost use Rattle.ra_base.specs.Causes.{Counts, Rose};
 ghost use Rattle.ra_base.specs.Outside.{Tables};
 ghost use Rattle.ra_base.specs.declared.table.TableBytes.{TableBytes};
 ghost use Rattle.system_model.specs.System.{SystemParts};
-ghost use Rattle.adequacy.specs.Commands.{asked_line, can_answer, is_built as built};
+ghost use Rattle.adequacy.specs.CommandWords.{is_campaign};
+ghost use Rattle.adequacy.specs.Commands.{asked_line, can_answer, waits, is_built as built};
 ghost use Rattle.adequacy.specs.Endings.{Answers, AnswerGained, Ends, Reports, Tells, HasRun, MayRun, IsAsked, RunsOn, is_shelf_failure, is_sink_failure, may_have_written, says_read_fault, says_write_fault, says_written};
 ghost use Rattle.adequacy.specs.Folder.{no_tables, table_order, HasRead, FolderSpells, IsRefused};
 ghost use Rattle.adequacy.specs.LineParts.{LineParts};
@@ -18,9 +19,13 @@ ghost use Rattle.adequacy.specs.declared.words.fault.WordFault.{WordFault};
 use crate::commands::{is_built, make_answer};
 use crate::endings::{Failure, folder_failure, report, words_failure};
 use crate::tables::read_folder;
+use crate::waiting::run_waiting;
 use crate::words::{Line, Request, WordFault, read_words};
-use ra_base::{Shelf, Sink, Status};
+use crate::writing::write_text;
+use ra_base::{Pause, Shelf, Sink, Status};
 use std::alloc::Global;
+use std::sync::Wait;
+use std::thread::Threads;
 use system_model::System;
 
 /// Runs the program on the words of its command line, without the program's own name.
@@ -30,12 +35,14 @@ use system_model::System;
 /// `credit FOLDER --kind K --measure M ..` brackets what a new unit is worth, and
 /// `study FOLDER --samples N ..` simulates so many samples. The answer goes to `out`; where there is none,
 /// one line on `err` says why.
-pub fn adequacy<S: Shelf, O: Sink, E: Sink>(
+pub fn adequacy<T: Threads + Wait + Sync, S: Shelf, O: Sink, E: Sink, P: Pause + Sync>(
+    rt: &T,
     alloc: Global,
     words: &[String],
     shelf: &mut S,
     out: &mut O,
     err: &mut E,
+    pause: &P,
 ) -> Status
     // Words that spell no line are refused by their first fault, or memory wasn't found, and nothing is
     // touched but `err`. No other words are refused.
@@ -86,7 +93,7 @@ pub fn adequacy<S: Shelf, O: Sink, E: Sink>(
         ⊎ (result ≡ Status.OutOfMemory) }
 {
     match ask(alloc, words) {
-        Ok(line) => run_line(alloc, &line, shelf, out, err),
+        Ok(line) => run_line(rt, alloc, &line, shelf, out, err, pause),
         Err(failure) => report(alloc, failure, err),
     }
 }
@@ -107,7 +114,37 @@ fn ask(alloc: Global, words: &[String]) -> Result<Line, Failure>
 }
 
 // Runs a line, and tells how it ended.
-fn run_line<S: Shelf, O: Sink, E: Sink>(
+fn run_line<T: Threads + Wait + Sync, S: Shelf, O: Sink, E: Sink, P: Pause + Sync>(
+    rt: &T,
+    alloc: Global,
+    line: &Line,
+    shelf: &mut S,
+    out: &mut O,
+    err: &mut E,
+    pause: &P,
+) -> Status
+    requires built { built line.now.command ≡ true }
+    ensures contents { S.contents shelf.new ≡ S.contents shelf.old }
+    ensures read_fault { Counts (says_read_fault result)
+        (S.counts shelf.old).faults (S.counts shelf.new).faults }
+    ensures write_fault { Counts (says_write_fault result) (O.faults out.old) (O.faults out.new) }
+    ensures unwritten { says_written result ≡ false → out.new ≡ out.old }
+    ensures done { result ≡ Status.Done → err.new ≡ err.old }
+    ensures words { result ≡ Status.Words → ⊥ }
+    ensures run { HasRun (S.contents shelf.old) line.now
+        result (S.reads shelf.old) (S.reads shelf.new) (S.counts shelf.old) (S.counts shelf.new)
+        (O.held out.old) (O.held out.new) (E.held err.old) (E.held err.new)
+        (E.faults err.old) (E.faults err.new) }
+{
+    if line.waits() {
+        run_waiting(rt, alloc, line, shelf, out, err, pause)
+    } else {
+        answer(alloc, line, shelf, out, err)
+    }
+}
+
+/// Answers a line of a command that waits for nobody, and gives the status. It always returns.
+pub fn answer<S: Shelf, O: Sink, E: Sink>(
     alloc: Global,
     line: &Line,
     shelf: &mut S,
@@ -115,6 +152,7 @@ fn run_line<S: Shelf, O: Sink, E: Sink>(
     err: &mut E,
 ) -> Status
     requires built { built line.now.command ≡ true }
+    requires waits { is_campaign line.now.command ≡ false }
     ensures contents { S.contents shelf.new ≡ S.contents shelf.old }
     ensures read_fault { Counts (says_read_fault result)
         (S.counts shelf.old).faults (S.counts shelf.new).faults }
@@ -141,6 +179,7 @@ fn run<S: Shelf, O: Sink>(
     out: &mut O,
 ) -> Result<(), Failure>
     requires built { built line.now.command ≡ true }
+    requires waits { is_campaign line.now.command ≡ false }
     ensures contents { S.contents shelf.new ≡ S.contents shelf.old }
     ensures reads { (tables : Result TableBytes FolderError)
         × HasRead (S.contents shelf.old) line.now.place no_tables table_order tables
@@ -152,19 +191,20 @@ fn run<S: Shelf, O: Sink>(
     ensures unwritten { may_have_written result ≡ false → out.new ≡ out.old }
 {
     match read_folder(alloc, line.place.text(), shelf) {
-        Ok(system) => answer(alloc, &system, line.request(), out),
+        Ok(system) => write_answer(alloc, &system, line.request(), out),
         Err(error) => Err(folder_failure(error)),
     }
 }
 
 // Writes what answers a request for a system, in one write.
-fn answer<O: Sink>(
+fn write_answer<O: Sink>(
     alloc: Global,
     system: &System,
     request: Request,
     out: &mut O,
 ) -> Result<(), Failure>
     requires built { can_answer request ≡ true }
+    requires waits { waits request ≡ false }
     requires terms { (line : LineParts) × IsRequestOf line request }
     ensures answer { Answers request system.now result (O.held out.old) (O.held out.new) }
     ensures read_faults { is_shelf_failure result ≡ false }
@@ -174,10 +214,7 @@ fn answer<O: Sink>(
     let Ok(text) = make_answer(alloc, system, request) else {
         return Err(Failure::OutOfMemory);
     };
-    match out.write(text.bytes()) {
-        Ok(()) => Ok(()),
-        Err(_) => Err(Failure::WriteFault),
-    }
+    write_text(&text, out)
 }
 
 #[cfg(test)]

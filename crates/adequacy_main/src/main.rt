@@ -6,6 +6,7 @@ mod std_sink;
 
 use adequacy::{Unread, report_unread};
 use folder_shelf::FolderShelf;
+use ra_base::NoPause;
 use std::process::ExitCode;
 use std::rt::Env;
 use std::{env, io};
@@ -31,7 +32,15 @@ fn main(rt: HostRuntime) -> ExitCode {
     let mut err = StdSink::new(rt.stderr());
     let mut shelf = FolderShelf::new(&rt);
     let status = match words_of(&rt) {
-        Ok(words) => adequacy::adequacy(rt.alloc(), &words, &mut shelf, &mut out, &mut err),
+        Ok(words) => adequacy::adequacy(
+            &rt,
+            rt.alloc(),
+            &words,
+            &mut shelf,
+            &mut out,
+            &mut err,
+            &NoPause,
+        ),
         Err(reason) => report_unread(reason, &mut err),
     };
     ExitCode::from(status.code())

@@ -1,7 +1,7 @@
 ghost use Rattle.std.specs.Prelude.{Some};
 
 use super::adequacy;
-use ra_base::{MemoryShelf, MemorySink, Sink, SinkFault, Status, TableName};
+use ra_base::{MemoryShelf, MemorySink, NoPause, Sink, SinkFault, Status, TableName};
 use std::alloc::Global;
 use std::test::Fail;
 
@@ -316,7 +316,7 @@ const CASES: [Case; 30] = [
     Case {
         tables: &[ZONE, NEVER_OUT, DAY],
         command: "study",
-        options: &["--samples", "2", "--seed", "1"],
+        options: &["--samples", "2", "--seed", "1", "--workers", "4", "--block", "1"],
         status: Status::Done,
         out: NOTHING_SHORT,
         err: "",
@@ -340,7 +340,7 @@ const CASES: [Case; 30] = [
     Case {
         tables: &[ZONE, ALTERNATING, TWO_HOURS],
         command: "study",
-        options: &["--samples", "3"],
+        options: &["--samples", "3", "--workers", "2", "--block", "2"],
         status: Status::Done,
         out: ONE_HOUR_EACH,
         err: "",
@@ -571,7 +571,9 @@ fn answers(rt: HostRuntime) -> Result<(), Fail> {
         let mut shelf = shelf_of(alloc, case.tables)?;
         let mut out = CountedSink::new(alloc, 1000)?;
         let mut err = CountedSink::new(alloc, 1000)?;
-        let status = adequacy(alloc, &words, &mut shelf, &mut out, &mut err);
+        let status = adequacy(
+            &rt, alloc, &words, &mut shelf, &mut out, &mut err, &NoPause,
+        );
         assert_eq!(rt; status, case.status, "case {number}");
         assert!(rt; out.holds(case.out), "case {number}");
         assert!(rt; err.holds(case.err), "case {number}");
@@ -605,7 +607,9 @@ fn faults(rt: HostRuntime) -> Result<(), Fail> {
         }
         let mut out = MemorySink::new(alloc, capacity)?;
         let mut err = MemorySink::new(alloc, room)?;
-        let status = adequacy(alloc, &words, &mut shelf, &mut out, &mut err);
+        let status = adequacy(
+            &rt, alloc, &words, &mut shelf, &mut out, &mut err, &NoPause,
+        );
         let (want, line, held) = if fails > 0 {
             (Status::ReadFault, "read fault\n", 0)
         } else if capacity < text.len() {

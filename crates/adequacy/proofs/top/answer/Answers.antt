@@ -1,6 +1,6 @@
 use Rattle.adequacy.specs.Requests.{request_of}
 use Rattle.adequacy.proofs.ReportLemmas.{told_of}
-use Rattle.adequacy.proofs.top.run_line.Goals as goal
+use Rattle.adequacy.proofs.top.answer.Goals as goal
 
 pub returns-in-Err-clause-run : goal.returns-in-Err-clause-run
 returns-in-Err-clause-run g c =
