@@ -16,8 +16,8 @@ module _ {B : Type 0} where
     pub number : v.number ≡ 0
     pub all : length v.joined + 1 ≡ v.made
 
-  -- the opening pass is alone, the samples below next were given out and deposited, and those below the target
-  -- are wanted
+  -- the opening pass is alone, nothing is out, and the gate is open: the samples below next were given out,
+  -- and those below the target are wanted
   pub record StandsAt (next target : ℕ) (v : View B) : Type 0 where
     pub alone : IsAlone v
     pub gate : gate_of v.target v.seen ≡ open_gate next target

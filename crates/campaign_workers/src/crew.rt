@@ -21,8 +21,8 @@ pub(crate) struct Crew<W: Work, J: Drop> {
     pub(crate) short: bool,
 }
 
-/// Has a worker for each job work at once, each with a pass that is split off and joined back. The first one to
-/// be started is that of the last job; it runs beside the others.
+/// Has a worker for each job work at once, each with a pass that is split off and joined back. The worker of
+/// the last job is started first and runs beside the others.
 #[cycle(crew)]
 pub(crate) fn run_crew<R: Threads + Wait + Sync, W: Work, J: Job<W> + Send, P: Pause + Sync>(
     rt: &R,
@@ -39,7 +39,8 @@ pub(crate) fn run_crew<R: Threads + Wait + Sync, W: Work, J: Job<W> + Send, P: P
     ensures pass { IsOf campaign.now result.pass }
     ensures joins { Joins (length jobs.items) (pass_of pass) (pass_of result.pass) }
     ensures works { result.short ≡ false → CrewWorks (pass_of pass) (pass_of result.pass) }
-    ensures reached { result.short ≡ false → 0 < length jobs.items → Reached (pass_of pass) (pass_of result.pass) }
+    ensures reached { result.short ≡ false → 0 < length jobs.items
+        → Reached (pass_of pass) (pass_of result.pass) }
     ensures many { length result.jobs.items ≡ length jobs.items }
     ensures room { vec_capacity result.jobs ≡ vec_capacity jobs }
     ensures jobs { All (λ job. J.serves job (work_of campaign.now)) result.jobs.items }

@@ -12,10 +12,10 @@ use std::alloc::Global;
 use std::sync::Wait;
 use std::thread::Threads;
 
-/// Runs the samples from 0 on, `samples` of them in the first round and as many more in each further one, until
-/// they are enough or there are `most` of them, and answers their sum. Each job has a worker of its own, which
-/// runs up to `block` samples at a time. It may wait for other threads. Where a worker or a report finds no
-/// memory there is no sum.
+/// Runs the samples from 0 on, `samples` of them in the first round and as many more in each further one,
+/// until they are enough or there are `most` of them, and answers their sum. Each job has a worker of its
+/// own, which runs up to `block` samples at a time. It may wait for other threads. Where a worker or a report
+/// finds no memory there is no sum.
 pub fn study<R: Threads + Wait + Sync, W: Work, J: Job<W> + Send, P: Pause + Sync>(
     rt: &R,
     alloc: Global,

@@ -43,8 +43,8 @@ pub struct Worked<W: Work> {
     pub end: WorkEnd,
 }
 
-/// Claims shares, runs their samples and deposits what they came to, until a claim gives none. Where a claim is
-/// idle and `wait_idle` is true, it claims again. It may wait for the pass that has the book.
+/// Claims shares, runs their samples and deposits what they came to, until a claim gives none. Where a claim
+/// is idle and `wait_idle` is true, it claims again. It may wait for the pass that has the book.
 pub fn work<R: Wait, W: Work, J: Job<W>, P: Pause>(
     rt: &R,
     alloc: Global,
