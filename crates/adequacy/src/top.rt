@@ -218,4 +218,6 @@ fn write_answer<O: Sink>(
 }
 
 #[cfg(test)]
+mod schedule_tests;
+#[cfg(test)]
 mod tests;

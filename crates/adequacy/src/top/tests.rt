@@ -16,10 +16,10 @@ struct Case {
     err: &'static str,
 }
 
-const ZONE: (TableName, &str) = (TableName::Zones, "name\nA\n");
+pub(super) const ZONE: (TableName, &str) = (TableName::Zones, "name\nA\n");
 
 // A unit of 100 MW that is never out, and one that always is.
-const NEVER_OUT: (TableName, &str) = (
+pub(super) const NEVER_OUT: (TableName, &str) = (
     TableName::Units,
     "name,zone,capacity,failure,repair\nU1,A,100,0,1\n",
 );
@@ -30,7 +30,7 @@ const ALWAYS_OUT: (TableName, &str) = (
 );
 
 // Loads of 60 MW in 24 hours.
-const DAY: (TableName, &str) = (
+pub(super) const DAY: (TableName, &str) = (
     TableName::Load,
     "hour,A\n0,60\n1,60\n2,60\n3,60\n4,60\n5,60\n6,60\n7,60\n8,60\n9,60\n10,60\n11,60\n12,60\n13,60\n14,60\n15,60\n16,60\n17,60\n18,60\n19,60\n20,60\n21,60\n22,60\n23,60\n",
 );
@@ -543,7 +543,7 @@ impl CountedSink {
     }
 }
 
-fn shelf_of(alloc: Global, tables: &[(TableName, &str)]) -> Result<MemoryShelf, Fail> {
+pub(super) fn shelf_of(alloc: Global, tables: &[(TableName, &str)]) -> Result<MemoryShelf, Fail> {
     let mut shelf = MemoryShelf::new(alloc);
     for (table, text) in tables {
         shelf.put("F", *table, text.as_bytes())?;
@@ -551,7 +551,7 @@ fn shelf_of(alloc: Global, tables: &[(TableName, &str)]) -> Result<MemoryShelf, 
     Ok(shelf)
 }
 
-fn words_of(alloc: Global, command: &str, options: &[&str]) -> Result<Vec<String>, Fail> {
+pub(super) fn words_of(alloc: Global, command: &str, options: &[&str]) -> Result<Vec<String>, Fail> {
     let mut words = Vec::new(alloc);
     words.push(String::from_str(alloc, command)?)?;
     words.push(String::from_str(alloc, "F")?)?;
