@@ -1,16 +1,12 @@
 -- From how a line ended to what is told of it.
-use Rattle.std.proofs.Common.{◌≡◌, ℕ, List, Option, Result, Err, inl, inr}
-use Rattle.ra_base.specs.Outside.{Tables}
-use Rattle.ra_base.specs.Reading.{Reading}
-use Rattle.ra_base.specs.declared.shelf_counts.ShelfCounts.{ShelfCounts}
+use Rattle.std.proofs.Common.{ℕ, List, Option, Result, Err, inl, inr}
 use Rattle.ra_base.specs.declared.status.Status.{Status}
 use Rattle.ra_base.specs.declared.table.TableBytes.{TableBytes}
 use Rattle.adequacy.specs.declared.endings.Failure.{Failure}
 use Rattle.adequacy.specs.declared.endings.Failure.TheVariants.{Words, Refused, ReadFault, WriteFault, OutOfMemory}
 use Rattle.adequacy.specs.declared.tables.FolderError.{FolderError}
 use Rattle.adequacy.specs.declared.words.request.Request.{Request}
-use Rattle.adequacy.specs.Folder.{no_tables, table_order, HasRead}
-use Rattle.adequacy.specs.Endings.{Ending, Ends, Tells, Reports, HasRun}
+use Rattle.adequacy.specs.Endings.{Ending, Ends, Tells, Reports}
 
 -- what was told is an ending that the run may have had
 pub told_of : (request : Request) (tables : Result TableBytes FolderError) (failure : Failure) (ends : Status) (held held' said said' : Option (List ℕ)) (faults faults' : ℕ)

@@ -1,7 +1,7 @@
 -- What reads come to where the shelf tells its tables: what the stored tables come to, unless a read failed or memory
 -- wasn't found.
-use Rattle.std.proofs.Common.{◌≡◌, ℕ, ◌≤◌, ◌<◌, List, [], ◌∷◌, length, Option, Some, None, Bool, true, false, Result, Ok, Err, refl, sym, ◌∙◌, subst, inl, inr, ◌⊎◌, arith}
-use Rattle.std.specs.Prelude.{if◌then◌else◌, nat_le}
+use Rattle.std.proofs.Common.{◌≡◌, ℕ, ◌≤◌, ◌<◌, List, [], ◌∷◌, length, Option, Some, true, false, Result, Ok, Err, refl, subst, inl, inr, ◌⊎◌, arith}
+use Rattle.std.specs.Prelude.{nat_le}
 use Rattle.ra_base.specs.declared.limits.TheConstants.{MOST_TABLE_BYTES}
 use Rattle.ra_base.specs.Outside.{Tables, ReadsAs}
 use Rattle.ra_base.specs.declared.shelf.ShelfError.TheVariants.{Missing as NoTable, TooLong as LongTable, Fault as ReadFailed, OutOfMemory as NoRoom}

@@ -1,5 +1,5 @@
 -- What the top call says of a line's run where the shelf tells its contents.
-use Rattle.std.proofs.Common.{◌≡◌, ℕ, List, Option, Some, Bool, true, false, Result, Ok, Err, refl, sym, ap, ◌∙◌, subst, inl, inr, ◌⊎◌}
+use Rattle.std.proofs.Common.{◌≡◌, ℕ, List, Option, Some, Result, Ok, Err, refl, subst, inl, inr, ◌⊎◌}
 use Rattle.ra_base.specs.Causes.{Counts, Rose}
 use Rattle.ra_base.specs.Outside.{Tables}
 use Rattle.ra_base.specs.Reading.{Reading}

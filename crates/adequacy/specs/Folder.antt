@@ -1,5 +1,5 @@
 -- A folder of tables: what the reads of a shelf have answered, and the system or the refusal that they come to.
-use Rattle.std.specs.Prelude.{◌≡◌, ◌⊎◌, ◌<◌, ◌≤◌, ℕ, nat_le, Bool, true, false, List, [], ◌∷◌, ◌++◌, length, Option, Some, None, Result, Ok, Err, if◌then◌else◌}
+use Rattle.std.specs.Prelude.{◌≡◌, ◌⊎◌, ℕ, nat_le, Bool, true, false, List, [], ◌∷◌, ◌++◌, length, Option, Some, None, Result, Ok, Err, if◌then◌else◌}
 use Rattle.ra_base.specs.declared.limits.TheConstants.{MOST_TABLE_BYTES}
 use Rattle.ra_base.specs.Outside.{Tables, ReadsTold}
 use Rattle.ra_base.specs.Reading.{Reading, reading}

@@ -1,4 +1,4 @@
-use Rattle.std.proofs.Common.{arith, sym, ap, ◌∙◌, Ok, Err}
+use Rattle.std.proofs.Common.{arith, sym, ◌∙◌}
 use Rattle.std.proofs.lemmas.Result.{err_from_is_err_and}
 use Rattle.adequacy.proofs.FolderLemmas.{reading_ends, reading_goes_on, ending_counted}
 use Rattle.adequacy.proofs.tables.+read_tables.Goals as goal
