@@ -22,12 +22,15 @@ same_end samples most enough enough' end same ends =
           elim ends.stops [
             | inl all ↦ inl all
             | inr (few, round) ↦
-                inr (few, record {
-                  rounds = round.rounds;
-                  some = round.some;
-                  is = round.is;
-                  passes = sym (same end (omega arith)) ∙ round.passes;
-                })
+                inr (
+                  few,
+                  record {
+                    rounds = round.rounds;
+                    some = round.some;
+                    is = round.is;
+                    passes = sym (same end (omega arith)) ∙ round.passes;
+                  },
+                )
           ];
       goes_on = λ rounds some below. sym (same (samples * rounds) (omega (arith, below))) ∙ ends.goes_on rounds some below;
     }

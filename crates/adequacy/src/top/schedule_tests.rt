@@ -1,7 +1,7 @@
 //! What no contract says: that the workers of a study run at once and claim their shares.
 
-use super::tests::{DAY, NEVER_OUT, ZONE, shelf_of, words_of};
 use super::adequacy;
+use super::tests::{DAY, NEVER_OUT, ZONE, shelf_of, words_of};
 use ra_base::{MemorySink, Pause, Status};
 use std::sync::atomic::{AtomicU64, Ordering};
 use std::test::Fail;
@@ -44,9 +44,7 @@ fn workers_run_at_once_and_claim_their_shares(rt: HostRuntime) -> Result<(), Fai
         come: AtomicU64::new(0),
         waited: AtomicU64::new(0),
     };
-    let status = adequacy(
-        &rt, alloc, &words, &mut shelf, &mut out, &mut err, &pause,
-    );
+    let status = adequacy(&rt, alloc, &words, &mut shelf, &mut out, &mut err, &pause);
     assert_eq!(rt; status, Status::Done);
     assert_eq!(rt; pause.waited.load(Ordering::SeqCst), 0);
     assert_eq!(rt; &out.bytes()[..10], b"samples 8\n".as_slice());

@@ -316,7 +316,16 @@ const CASES: [Case; 30] = [
     Case {
         tables: &[ZONE, NEVER_OUT, DAY],
         command: "study",
-        options: &["--samples", "2", "--seed", "1", "--workers", "4", "--block", "1"],
+        options: &[
+            "--samples",
+            "2",
+            "--seed",
+            "1",
+            "--workers",
+            "4",
+            "--block",
+            "1",
+        ],
         status: Status::Done,
         out: NOTHING_SHORT,
         err: "",
@@ -551,7 +560,11 @@ pub(super) fn shelf_of(alloc: Global, tables: &[(TableName, &str)]) -> Result<Me
     Ok(shelf)
 }
 
-pub(super) fn words_of(alloc: Global, command: &str, options: &[&str]) -> Result<Vec<String>, Fail> {
+pub(super) fn words_of(
+    alloc: Global,
+    command: &str,
+    options: &[&str],
+) -> Result<Vec<String>, Fail> {
     let mut words = Vec::new(alloc);
     words.push(String::from_str(alloc, command)?)?;
     words.push(String::from_str(alloc, "F")?)?;
@@ -571,9 +584,7 @@ fn answers(rt: HostRuntime) -> Result<(), Fail> {
         let mut shelf = shelf_of(alloc, case.tables)?;
         let mut out = CountedSink::new(alloc, 1000)?;
         let mut err = CountedSink::new(alloc, 1000)?;
-        let status = adequacy(
-            &rt, alloc, &words, &mut shelf, &mut out, &mut err, &NoPause,
-        );
+        let status = adequacy(&rt, alloc, &words, &mut shelf, &mut out, &mut err, &NoPause);
         assert_eq!(rt; status, case.status, "case {number}");
         assert!(rt; out.holds(case.out), "case {number}");
         assert!(rt; err.holds(case.err), "case {number}");
@@ -607,9 +618,7 @@ fn faults(rt: HostRuntime) -> Result<(), Fail> {
         }
         let mut out = MemorySink::new(alloc, capacity)?;
         let mut err = MemorySink::new(alloc, room)?;
-        let status = adequacy(
-            &rt, alloc, &words, &mut shelf, &mut out, &mut err, &NoPause,
-        );
+        let status = adequacy(&rt, alloc, &words, &mut shelf, &mut out, &mut err, &NoPause);
         let (want, line, held) = if fails > 0 {
             (Status::ReadFault, "read fault\n", 0)
         } else if capacity < text.len() {
