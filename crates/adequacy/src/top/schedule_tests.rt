@@ -8,6 +8,14 @@ use std::test::Fail;
 
 const TURNS: u32 = 200_000_000;
 
+const EIGHT_SAMPLES: &str = "samples 8
+hours sum 0 mean 0.000 error 0.000
+days sum 0 mean 0.000 error 0.000
+events sum 0 mean 0.000 error 0.000
+unserved sum 0 mean 0.000 error 0.000
+zone A sum 0 mean 0.000 error 0.000
+";
+
 // Holds the share that begins with sample 0 until the three behind it have come.
 #[derive(Drop)]
 struct HoldsTheFirst {
@@ -47,6 +55,6 @@ fn workers_run_at_once_and_claim_their_shares(rt: HostRuntime) -> Result<(), Fai
     let status = adequacy(&rt, alloc, &words, &mut shelf, &mut out, &mut err, &pause);
     assert_eq!(rt; status, Status::Done);
     assert_eq!(rt; pause.waited.load(Ordering::SeqCst), 0);
-    assert_eq!(rt; &out.bytes()[..10], b"samples 8\n".as_slice());
+    assert_eq!(rt; out.bytes(), EIGHT_SAMPLES.as_bytes());
     Ok(())
 }
