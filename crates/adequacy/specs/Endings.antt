@@ -1,5 +1,5 @@
 -- How a run of the program ends: its status, what `out` has gained, and the line on `err`.
-use Rattle.std.specs.Prelude.{◌≡◌, ◌⊎◌, ℕ, List, [], ◌∷◌, ◌++◌, codes, Bool, true, false, Option, Result, Ok, Err}
+use Rattle.std.specs.Prelude.{◌≡◌, ◌⊎◌, ℕ, List, [], ◌∷◌, ◌++◌, codes, Bool, true, false, Option, None, Result, Ok, Err}
 use Rattle.ra_base.specs.Causes.{Counts, Gained, GainedPart}
 use Rattle.ra_base.specs.Outside.{Tables}
 use Rattle.ra_base.specs.Reading.{Reading}
@@ -8,14 +8,17 @@ use Rattle.ra_base.specs.declared.status.Status.{Status}
 use Rattle.ra_base.specs.declared.status.Status.TheVariants as status
 use Rattle.ra_base.specs.declared.table.TableBytes.{TableBytes}
 use Rattle.system_model.specs.System.{SystemParts}
-use Rattle.adequacy.specs.Commands.{IsAnswer}
+use Rattle.sample_totals.specs.Recorders.{Seen}
+use Rattle.sample_run.specs.declared.traces.TraceError.{TraceError}
+use Rattle.sample_run.specs.declared.traces.TraceError.TheVariants as trace
+use Rattle.adequacy.specs.Commands.{IsAnswer, is_trace}
 use Rattle.report_text.specs.FaultText.{table_text, fault_line}
 use Rattle.adequacy.specs.Folder.{folder_outcome, no_tables, table_order, HasRead, stored_tables}
 use Rattle.adequacy.specs.LineParts.{LineParts}
 use Rattle.adequacy.specs.Requests.{request_of}
 use Rattle.adequacy.specs.WordFaultText.{word_fault_text}
 use Rattle.adequacy.specs.declared.endings.Failure.{Failure}
-use Rattle.adequacy.specs.declared.endings.Failure.TheVariants.{Words, Refused, ReadFault, WriteFault, OutOfMemory}
+use Rattle.adequacy.specs.declared.endings.Failure.TheVariants.{Words, Refused, ReadFault, WriteFault, RecorderRefused, OutOfMemory}
 use Rattle.adequacy.specs.declared.endings.Unread.{Unread}
 use Rattle.adequacy.specs.declared.endings.Unread.TheVariants as unread
 use Rattle.adequacy.specs.declared.tables.FolderError.{FolderError}
@@ -27,6 +30,7 @@ use Rattle.adequacy.specs.declared.words.fault.WordFault.TheVariants.{Usage}
 use Rattle.adequacy.specs.declared.words.fault.WordsError.{WordsError}
 use Rattle.adequacy.specs.declared.words.fault.WordsError.TheVariants as words
 use Rattle.adequacy.specs.declared.words.request.Request.{Request}
+use Rattle.adequacy.specs.declared.words.request.Request.TheVariants.{Trace}
 
 -- a run answers, or fails
 abbrev pub Ending : Type 0
@@ -43,6 +47,17 @@ abbrev pub failure_of_words : WordsError → Failure
 failure_of_words (words.Words fault) = Words fault
 failure_of_words words.OutOfMemory = OutOfMemory
 
+-- the failure of a trace that stopped
+abbrev pub failure_of_trace : TraceError → Failure
+failure_of_trace (trace.Refused at hour) = RecorderRefused
+failure_of_trace (trace.OutOfMemory at hour) = OutOfMemory
+
+-- whether a failure is one that a trace may have
+abbrev pub is_trace_failure : Failure → Bool
+is_trace_failure RecorderRefused = true
+is_trace_failure OutOfMemory = true
+is_trace_failure failure = false
+
 -- the failure of a run that has no words to read
 abbrev pub unread_failure : Unread → Failure
 unread_failure unread.NotText = Words Usage
@@ -54,6 +69,7 @@ failure_status (Words fault) = status.Words
 failure_status (Refused refusal) = status.Table
 failure_status ReadFault = status.ReadFault
 failure_status WriteFault = status.WriteFault
+failure_status RecorderRefused = status.RecorderRefused
 failure_status OutOfMemory = status.OutOfMemory
 
 abbrev pub ending_status : Ending → Status
@@ -72,6 +88,7 @@ error_line (Words fault) = word_fault_text fault
 error_line (Refused refusal) = refusal_line refusal
 error_line ReadFault = codes "read fault" ++ 10 ∷ []
 error_line WriteFault = codes "write fault" ++ 10 ∷ []
+error_line RecorderRefused = codes "recorder refused" ++ 10 ∷ []
 error_line OutOfMemory = codes "out of memory" ++ 10 ∷ []
 
 -- `err` has gained a line, or its first part where its count of faults rose
@@ -94,30 +111,31 @@ Reports (Refused refusal) ends before now faults faults' =
 Reports failure ends before now faults faults' = Tells (Err failure) ends before now faults faults'
 
 -- `out` has gained what answers a request for a system
-abbrev pub AnswerGained : Request → SystemParts → Option (List ℕ) → Option (List ℕ) → Type 0
-AnswerGained request system before now = (text : List ℕ) × IsAnswer request system text × Gained before now text
+abbrev pub AnswerGained : Request → List Seen → SystemParts → Option (List ℕ) → Option (List ℕ) → Type 0
+AnswerGained request seen system before now = (text : List ℕ) × IsAnswer request seen system text × Gained before now text
 
 -- how a request ends for a system, and what `out` has gained: its answer, a first part of that where the write
 -- failed, or nothing
-abbrev pub Answers : Request → SystemParts → Ending → Option (List ℕ) → Option (List ℕ) → Type 0
-Answers request system (Ok done) before now = AnswerGained request system before now
-Answers request system (Err WriteFault) before now =
-    (text : List ℕ) × IsAnswer request system text × GainedPart before now text
-Answers request system (Err OutOfMemory) before now = now ≡ before
-Answers request system (Err (Words fault)) before now = ⊥
-Answers request system (Err (Refused refusal)) before now = ⊥
-Answers request system (Err ReadFault) before now = ⊥
+abbrev pub Answers : Request → List Seen → SystemParts → Ending → Option (List ℕ) → Option (List ℕ) → Type 0
+Answers request seen system (Ok done) before now = AnswerGained request seen system before now
+Answers request seen system (Err WriteFault) before now =
+    (text : List ℕ) × IsAnswer request seen system text × GainedPart before now text
+Answers request seen system (Err OutOfMemory) before now = now ≡ before
+Answers request seen system (Err RecorderRefused) before now = (is_trace request ≡ true) × (now ≡ before)
+Answers request seen system (Err (Words fault)) before now = ⊥
+Answers request seen system (Err (Refused refusal)) before now = ⊥
+Answers request seen system (Err ReadFault) before now = ⊥
 
 -- how a request ends for a folder, by what the reads of its tables came to: where they spell a system, by what it
 -- answers for that system; where they are refused, for that reason; where a read failed, so
-abbrev pub Ends : Request → Result TableBytes FolderError → Ending → Option (List ℕ) → Option (List ℕ) → Type 0
-Ends request tables (Err OutOfMemory) before now = now ≡ before
-Ends request tables (Err (Words fault)) before now = ⊥
-Ends request tables (Err (Refused refusal)) before now =
+abbrev pub Ends : Request → List Seen → Result TableBytes FolderError → Ending → Option (List ℕ) → Option (List ℕ) → Type 0
+Ends request seen tables (Err OutOfMemory) before now = now ≡ before
+Ends request seen tables (Err (Words fault)) before now = ⊥
+Ends request seen tables (Err (Refused refusal)) before now =
     (folder_outcome tables ≡ Err (folder.Refused refusal)) × (now ≡ before)
-Ends request tables (Err ReadFault) before now = (folder_outcome tables ≡ Err folder.ReadFault) × (now ≡ before)
-Ends request tables ending before now =
-    (system : SystemParts) × (folder_outcome tables ≡ Ok system) × Answers request system ending before now
+Ends request seen tables (Err ReadFault) before now = (folder_outcome tables ≡ Err folder.ReadFault) × (now ≡ before)
+Ends request seen tables ending before now =
+    (system : SystemParts) × (folder_outcome tables ≡ Ok system) × Answers request seen system ending before now
 
 -- whether a read failed, and whether the write of the answer did
 abbrev pub is_shelf_failure : Ending → Bool
@@ -128,6 +146,11 @@ abbrev pub is_sink_failure : Ending → Bool
 is_sink_failure (Err WriteFault) = true
 is_sink_failure ending = false
 
+-- whether a folder gave no system
+abbrev pub is_folder_failure : Ending → Bool
+is_folder_failure (Err (Refused refusal)) = true
+is_folder_failure ending = is_shelf_failure ending
+
 -- whether a status says so
 abbrev pub says_read_fault : Status → Bool
 says_read_fault status.ReadFault = true
@@ -136,6 +159,10 @@ says_read_fault ends = false
 abbrev pub says_write_fault : Status → Bool
 says_write_fault status.WriteFault = true
 says_write_fault ends = false
+
+abbrev pub says_refused : Status → Bool
+says_refused status.Table = true
+says_refused ends = says_read_fault ends
 
 -- whether `out` may have gained a byte
 abbrev pub may_have_written : Ending → Bool
@@ -148,11 +175,11 @@ says_written ends = says_write_fault ends
 
 -- a line has run: the tables of its folder were read up to the first that ends the reading, the run ended as these
 -- tables and the command have it, and that was told
-pub record HasRun (contents : Option Tables) (line : LineParts) (ends : Status) (reads reads' : List Reading) (counts counts' : ShelfCounts) (held held' : Option (List ℕ)) (said said' : Option (List ℕ)) (faults faults' : ℕ) : Type 0 where
+pub record HasRun (contents : Option Tables) (line : LineParts) (seen : List Seen) (ends : Status) (reads reads' : List Reading) (counts counts' : ShelfCounts) (held held' : Option (List ℕ)) (said said' : Option (List ℕ)) (faults faults' : ℕ) : Type 0 where
   pub tables : Result TableBytes FolderError
   pub ending : Ending
   pub read : HasRead contents line.place no_tables table_order tables reads reads' counts counts'
-  pub ended : Ends (request_of line) tables ending held held'
+  pub ended : Ends (request_of line) seen tables ending held held'
   pub told : Tells ending ends said said' faults faults'
 
 -- memory wasn't found before anything was read
@@ -163,15 +190,15 @@ pub record HasNotRun (ends : Status) (reads reads' : List Reading) (counts count
   pub told : Tells (Err OutOfMemory) ends said said' faults faults'
 
 -- a line has run, or memory wasn't found before anything was read
-abbrev pub MayRun : Option Tables → LineParts → Status → List Reading → List Reading → ShelfCounts → ShelfCounts → Option (List ℕ) → Option (List ℕ) → Option (List ℕ) → Option (List ℕ) → ℕ → ℕ → Type 0
-MayRun contents line ends reads reads' counts counts' held held' said said' faults faults' =
-    HasRun contents line ends reads reads' counts counts' held held' said said' faults faults'
+abbrev pub MayRun : Option Tables → LineParts → List Seen → Status → List Reading → List Reading → ShelfCounts → ShelfCounts → Option (List ℕ) → Option (List ℕ) → Option (List ℕ) → Option (List ℕ) → ℕ → ℕ → Type 0
+MayRun contents line seen ends reads reads' counts counts' held held' said said' faults faults' =
+    HasRun contents line seen ends reads reads' counts counts' held held' said said' faults faults'
     ⊎ HasNotRun ends reads reads' counts counts' held held' said said' faults faults'
 
 -- a line has run on the stored tables of its folder, unless a read of them failed
-pub record RunsOn (stored : Tables) (line : LineParts) (ends : Status) (held held' : Option (List ℕ)) (said said' : Option (List ℕ)) (faults faults' : ℕ) : Type 0 where
+pub record RunsOn (stored : Tables) (line : LineParts) (seen : List Seen) (ends : Status) (held held' : Option (List ℕ)) (said said' : Option (List ℕ)) (faults faults' : ℕ) : Type 0 where
   pub ending : Ending
-  pub ended : (ending ≡ Err ReadFault) ⊎ Ends (request_of line) (stored_tables stored line.place) ending held held'
+  pub ended : (ending ≡ Err ReadFault) ⊎ Ends (request_of line) seen (stored_tables stored line.place) ending held held'
   pub told : Tells ending ends said said' faults faults'
 
 -- words have given this line, or their first fault, or memory wasn't found
@@ -180,3 +207,9 @@ IsAsked asked (Ok line) = asked ≡ Ok line
 IsAsked asked (Err (Words fault)) = asked ≡ Err fault
 IsAsked asked (Err OutOfMemory) = Unit {0}
 IsAsked asked (Err _) = ⊥
+
+-- why no text was made: memory wasn't found, or a recorder refused
+abbrev pub IsTextFailure : Request → Failure → Type 0
+IsTextFailure request OutOfMemory = Unit {0}
+IsTextFailure request RecorderRefused = is_trace request ≡ true
+IsTextFailure request failure = ⊥

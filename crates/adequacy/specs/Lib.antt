@@ -11,6 +11,7 @@ pub mod Parse
 pub mod Requests
 pub mod Rounds
 pub mod StudyText
+pub mod Traces
 pub mod WordFaultText
 pub mod Words
 pub mod WorkedWords

@@ -1,11 +1,12 @@
 //! What each command answers: the bytes of its text for a system.
-ghost use Rattle.std.specs.Prelude.{◌≡◌, ◌<◌, ◌≤◌, IfOk, None, true};
+ghost use Rattle.std.specs.Prelude.{◌≡◌, ◌<◌, ◌≤◌, IfOk, List, None, true, false};
 ghost use Rattle.ra_base.specs.declared.limits.TheConstants.{MOST_POOLED_MW};
 ghost use Rattle.analytic_index.specs.Pool.{IsNewUnit, pool_of};
 ghost use Rattle.adequacy.specs.declared.words.request.Request.{Request};
 ghost use Rattle.index_text.specs.TableText.{table_text};
 ghost use Rattle.index_text.specs.IndexText.{index_text};
-ghost use Rattle.adequacy.specs.Commands.{IsAnswer, check_text, can_answer, is_built as built};
+ghost use Rattle.adequacy.specs.Commands.{IsAnswer, check_text, can_answer, is_built as built, is_trace};
+ghost use Rattle.sample_totals.specs.Recorders.{Seen};
 ghost use Rattle.adequacy.specs.LineParts.{LineParts};
 ghost use Rattle.adequacy.specs.Requests.{IsRequestOf};
 
@@ -29,8 +30,9 @@ pub(crate) fn make_answer(
     request: Request,
 ) -> Result<Text, OutOfMemory>
     requires built { can_answer request ≡ true }
+    requires other { is_trace request ≡ false }
     requires terms { (line : LineParts) × IsRequestOf line request }
-    ensures { IfOk result (IsAnswer request system.now) }
+    ensures { IfOk result (λ text. (seen : List Seen) → IsAnswer request seen system.now text) }
 {
     match request {
         Request::Check => make_check_text(alloc, system),
@@ -84,7 +86,7 @@ fn make_credit_text<L: Ledger>(
     requires some { 0 < blank.parts }
     requires unit { IsNewUnit terms.unit }
     requires most { terms.most ≤ MOST_POOLED_MW }
-    ensures { IfOk result (IsAnswer (Request.Credit terms) system.now) }
+    ensures { IfOk result (λ text. (seen : List Seen) → IsAnswer (Request.Credit terms) seen system.now text) }
 {
     let mut steps = Steps::<L>::open(blank);
     let bracket = credit(
@@ -106,7 +108,8 @@ pub(crate) fn is_built(command: Command) -> bool
     ensures { result ≡ built command }
 {
     match command {
-        Command::Check | Command::Table | Command::Index | Command::Credit | Command::Study => true,
-        Command::Trace | Command::Trial | Command::Console => false,
+        Command::Check | Command::Table | Command::Index => true,
+        Command::Credit | Command::Trace | Command::Study => true,
+        Command::Trial | Command::Console => false,
     }
 }

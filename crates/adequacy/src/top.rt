@@ -1,15 +1,16 @@
 //! The top call: from the words of the command line to the bytes of the answer.
-ghost use Rattle.std.specs.Prelude.{◌≡◌, ◌⊎◌, Some, Ok, Err, IfOk, Result, map, true, false};
+ghost use Rattle.std.specs.Prelude.{◌≡◌, ◌⊎◌, Some, Ok, Err, IfErr, IfOk, Result, map, true, false};
 ghost use Rattle.std.specs.String.{string_bytes};
 ghost use Rattle.ra_base.specs.Causes.{Counts, Rose};
 ghost use Rattle.ra_base.specs.Outside.{Tables};
 ghost use Rattle.ra_base.specs.declared.table.TableBytes.{TableBytes};
 ghost use Rattle.system_model.specs.System.{SystemParts};
-ghost use Rattle.adequacy.specs.Commands.{asked_line, can_answer, is_built as built};
-ghost use Rattle.adequacy.specs.Endings.{Answers, AnswerGained, Ends, Reports, Tells, HasRun, MayRun, IsAsked, RunsOn, is_shelf_failure, is_sink_failure, may_have_written, says_read_fault, says_write_fault, says_written};
+ghost use Rattle.adequacy.specs.Commands.{IsAnswer, asked_line, can_answer, is_built as built};
+ghost use Rattle.adequacy.specs.Endings.{Answers, AnswerGained, Ends, Reports, Tells, HasRun, MayRun, IsAsked, IsTextFailure, RunsOn, is_shelf_failure, is_sink_failure, is_folder_failure, may_have_written, says_read_fault, says_refused, says_write_fault, says_written};
 ghost use Rattle.adequacy.specs.Folder.{no_tables, table_order, HasRead, FolderSpells, IsRefused};
 ghost use Rattle.adequacy.specs.LineParts.{LineParts};
 ghost use Rattle.adequacy.specs.Requests.{IsRequestOf, request_of};
+ghost use Rattle.adequacy.specs.Traces.{IsRefusedBy, Keeps, Leaves};
 ghost use Rattle.adequacy.specs.declared.endings.Failure.{Failure};
 ghost use Rattle.adequacy.specs.declared.tables.FolderError.{FolderError};
 ghost use Rattle.adequacy.specs.declared.tables.Refusal.{Refusal};
@@ -18,8 +19,10 @@ ghost use Rattle.adequacy.specs.declared.words.fault.WordFault.{WordFault};
 use crate::commands::{is_built, make_answer};
 use crate::endings::{Failure, folder_failure, report, words_failure};
 use crate::tables::read_folder;
+use crate::traces::make_trace_text;
 use crate::words::{Line, Request, WordFault, read_words};
-use ra_base::{Shelf, Sink, Status};
+use ra_base::{OutOfMemory, Shelf, Sink, Status, Text};
+use sample_totals::Recorder;
 use std::alloc::Global;
 use system_model::System;
 
@@ -27,20 +30,22 @@ use system_model::System;
 ///
 /// The words name a command, a folder and the command's options: `check FOLDER` tells how large the folder's
 /// system is, `table FOLDER` gives its capacity outage table, `index FOLDER` its LOLE and EUE,
-/// `credit FOLDER --kind K --measure M ..` brackets what a new unit is worth, and
-/// `study FOLDER --samples N ..` simulates so many samples. The answer goes to `out`; where there is none,
-/// one line on `err` says why.
-pub fn adequacy<S: Shelf, O: Sink, E: Sink>(
+/// `credit FOLDER --kind K --measure M ..` brackets what a new unit is worth,
+/// `study FOLDER --samples N ..` simulates so many samples, and `trace FOLDER --sample K ..` writes the texts
+/// of the recorders after the hours of one sample. A trace first drops the recorders whose kind isn't chosen;
+/// other commands leave them alone. The answer goes to `out`; where there is none, one line on `err` says why.
+pub fn adequacy<S: Shelf, O: Sink, E: Sink, R: Recorder>(
     alloc: Global,
     words: &[String],
     shelf: &mut S,
     out: &mut O,
     err: &mut E,
+    recorders: &mut Vec<R>,
 ) -> Status
     // Words that spell no line are refused by their first fault, or memory wasn't found, and nothing is
     // touched but `err`. No other words are refused.
     ensures words { (fault : WordFault) → asked_line (map string_bytes words.now) ≡ Err fault →
-        (shelf.new ≡ shelf.old) × (out.new ≡ out.old) ×
+        (shelf.new ≡ shelf.old) × (out.new ≡ out.old) × (recorders.new ≡ recorders.old) ×
         Reports (Failure.Words fault) result (E.held err.old) (E.held err.new)
         (E.faults err.old) (E.faults err.new) }
     ensures refused_words { result ≡ Status.Words →
@@ -56,24 +61,27 @@ pub fn adequacy<S: Shelf, O: Sink, E: Sink>(
 
     // A line runs on what this call's reads answered, whether the shelf tells its contents or not.
     ensures run { (line : LineParts) → asked_line (map string_bytes words.now) ≡ Ok line →
-        MayRun (S.contents shelf.old) line result (S.reads shelf.old) (S.reads shelf.new)
-        (S.counts shelf.old) (S.counts shelf.new) (O.held out.old) (O.held out.new)
-        (E.held err.old) (E.held err.new) (E.faults err.old) (E.faults err.new) }
+        MayRun (S.contents shelf.old) line (map R.seen recorders.old.items) result
+        (S.reads shelf.old) (S.reads shelf.new) (S.counts shelf.old) (S.counts shelf.new)
+        (O.held out.old) (O.held out.new) (E.held err.old) (E.held err.new)
+        (E.faults err.old) (E.faults err.new) }
 
     // Where the shelf tells its contents, the run is that of the stored tables, or a read failed.
     ensures told { (line : LineParts) (stored : Tables) → asked_line (map string_bytes words.now) ≡ Ok line
         → S.contents shelf.old ≡ Some stored
-        → RunsOn stored line result (O.held out.old) (O.held out.new)
+        → RunsOn stored line (map R.seen recorders.old.items) result (O.held out.old) (O.held out.new)
         (E.held err.old) (E.held err.new) (E.faults err.old) (E.faults err.new) }
 
-    // So stored tables that spell a system are answered where no fault was counted, or memory wasn't found;
+    // So stored tables that spell a system are answered where no fault and no refusal was counted, or memory
+    // wasn't found,
     ensures answered { (line : LineParts) (stored : Tables) (system : SystemParts) →
         asked_line (map string_bytes words.now) ≡ Ok line → S.contents shelf.old ≡ Some stored →
         FolderSpells stored line.place system →
         ¬ Rose (S.counts shelf.old).faults (S.counts shelf.new).faults →
         ¬ Rose (O.faults out.old) (O.faults out.new) →
+        ¬ IsRefusedBy R.seen R.refusals (request_of line) recorders.old.items recorders.new.items →
         ((result ≡ Status.Done)
-        × AnswerGained (request_of line) system (O.held out.old) (O.held out.new))
+        × AnswerGained (request_of line) (map R.seen recorders.old.items) system (O.held out.old) (O.held out.new))
         ⊎ (result ≡ Status.OutOfMemory) }
 
     // and stored tables that are refused are refused for that reason, which `err` has then gained.
@@ -84,9 +92,21 @@ pub fn adequacy<S: Shelf, O: Sink, E: Sink>(
         Tells (Err (Failure.Refused refusal)) result (E.held err.old) (E.held err.new)
         (E.faults err.old) (E.faults err.new)
         ⊎ (result ≡ Status.OutOfMemory) }
+
+    // Only a trace that comes to its hours touches the recorders. It keeps the chosen ones, and is refused only
+    // where one of these counted it.
+    ensures recorders { (line : LineParts) → asked_line (map string_bytes words.now) ≡ Ok line →
+        Leaves R.seen (request_of line) recorders.old.items recorders.new.items }
+    ensures unread { says_refused result ≡ true → recorders.new.items ≡ recorders.old.items }
+    ensures kept { (line : LineParts) → asked_line (map string_bytes words.now) ≡ Ok line →
+        says_written result ≡ true →
+        Keeps R.seen R.refusals (request_of line) recorders.old.items recorders.new.items }
+    ensures refused_hour { (line : LineParts) → asked_line (map string_bytes words.now) ≡ Ok line →
+        result ≡ Status.RecorderRefused →
+        IsRefusedBy R.seen R.refusals (request_of line) recorders.old.items recorders.new.items }
 {
     match ask(alloc, words) {
-        Ok(line) => run_line(alloc, &line, shelf, out, err),
+        Ok(line) => run_line(alloc, &line, shelf, out, err, recorders),
         Err(failure) => report(alloc, failure, err),
     }
 }
@@ -107,12 +127,13 @@ fn ask(alloc: Global, words: &[String]) -> Result<Line, Failure>
 }
 
 // Runs a line, and tells how it ended.
-fn run_line<S: Shelf, O: Sink, E: Sink>(
+fn run_line<S: Shelf, O: Sink, E: Sink, R: Recorder>(
     alloc: Global,
     line: &Line,
     shelf: &mut S,
     out: &mut O,
     err: &mut E,
+    recorders: &mut Vec<R>,
 ) -> Status
     requires built { built line.now.command ≡ true }
     ensures contents { S.contents shelf.new ≡ S.contents shelf.old }
@@ -122,61 +143,106 @@ fn run_line<S: Shelf, O: Sink, E: Sink>(
     ensures unwritten { says_written result ≡ false → out.new ≡ out.old }
     ensures done { result ≡ Status.Done → err.new ≡ err.old }
     ensures words { result ≡ Status.Words → ⊥ }
-    ensures run { HasRun (S.contents shelf.old) line.now
+    ensures recorders { Leaves R.seen (request_of line.now) recorders.old.items recorders.new.items }
+    ensures unread { says_refused result ≡ true → recorders.new.items ≡ recorders.old.items }
+    ensures kept { says_written result ≡ true →
+        Keeps R.seen R.refusals (request_of line.now) recorders.old.items recorders.new.items }
+    ensures refused_hour { result ≡ Status.RecorderRefused →
+        IsRefusedBy R.seen R.refusals (request_of line.now) recorders.old.items recorders.new.items }
+    ensures run { HasRun (S.contents shelf.old) line.now (map R.seen recorders.old.items)
         result (S.reads shelf.old) (S.reads shelf.new) (S.counts shelf.old) (S.counts shelf.new)
         (O.held out.old) (O.held out.new) (E.held err.old) (E.held err.new)
         (E.faults err.old) (E.faults err.new) }
 {
-    match run(alloc, line, shelf, out) {
+    match run(alloc, line, shelf, out, recorders) {
         Ok(()) => Status::Done,
         Err(failure) => report(alloc, failure, err),
     }
 }
 
 // Runs a line: reads the folder's tables and writes what answers the line's request for their system.
-fn run<S: Shelf, O: Sink>(
+fn run<S: Shelf, O: Sink, R: Recorder>(
     alloc: Global,
     line: &Line,
     shelf: &mut S,
     out: &mut O,
+    recorders: &mut Vec<R>,
 ) -> Result<(), Failure>
     requires built { built line.now.command ≡ true }
     ensures contents { S.contents shelf.new ≡ S.contents shelf.old }
     ensures reads { (tables : Result TableBytes FolderError)
         × HasRead (S.contents shelf.old) line.now.place no_tables table_order tables
         (S.reads shelf.old) (S.reads shelf.new) (S.counts shelf.old) (S.counts shelf.new)
-        × Ends (request_of line.now) tables result (O.held out.old) (O.held out.new) }
+        × Ends (request_of line.now) (map R.seen recorders.old.items) tables result
+        (O.held out.old) (O.held out.new) }
     ensures read_faults { Counts (is_shelf_failure result)
         (S.counts shelf.old).faults (S.counts shelf.new).faults }
     ensures write_faults { Counts (is_sink_failure result) (O.faults out.old) (O.faults out.new) }
     ensures unwritten { may_have_written result ≡ false → out.new ≡ out.old }
+    ensures recorders { Leaves R.seen (request_of line.now) recorders.old.items recorders.new.items }
+    ensures unread { is_folder_failure result ≡ true → recorders.new.items ≡ recorders.old.items }
+    ensures kept { may_have_written result ≡ true →
+        Keeps R.seen R.refusals (request_of line.now) recorders.old.items recorders.new.items }
+    ensures refused_hour { result ≡ Err Failure.RecorderRefused →
+        IsRefusedBy R.seen R.refusals (request_of line.now) recorders.old.items recorders.new.items }
 {
     match read_folder(alloc, line.place.text(), shelf) {
-        Ok(system) => answer(alloc, &system, line.request(), out),
+        Ok(system) => answer(alloc, &system, line.request(), out, recorders),
         Err(error) => Err(folder_failure(error)),
     }
 }
 
 // Writes what answers a request for a system, in one write.
-fn answer<O: Sink>(
+fn answer<O: Sink, R: Recorder>(
     alloc: Global,
     system: &System,
     request: Request,
     out: &mut O,
+    recorders: &mut Vec<R>,
 ) -> Result<(), Failure>
     requires built { can_answer request ≡ true }
     requires terms { (line : LineParts) × IsRequestOf line request }
-    ensures answer { Answers request system.now result (O.held out.old) (O.held out.new) }
+    ensures answer { Answers request (map R.seen recorders.old.items) system.now result
+        (O.held out.old) (O.held out.new) }
+    ensures read { is_folder_failure result ≡ false }
     ensures read_faults { is_shelf_failure result ≡ false }
     ensures write_faults { Counts (is_sink_failure result) (O.faults out.old) (O.faults out.new) }
     ensures unwritten { may_have_written result ≡ false → out.new ≡ out.old }
+    ensures recorders { Leaves R.seen request recorders.old.items recorders.new.items }
+    ensures kept { may_have_written result ≡ true →
+        Keeps R.seen R.refusals request recorders.old.items recorders.new.items }
+    ensures refused_hour { result ≡ Err Failure.RecorderRefused →
+        IsRefusedBy R.seen R.refusals request recorders.old.items recorders.new.items }
 {
-    let Ok(text) = make_answer(alloc, system, request) else {
-        return Err(Failure::OutOfMemory);
-    };
+    let text = answer_text(alloc, system, request, recorders)?;
     match out.write(text.bytes()) {
         Ok(()) => Ok(()),
         Err(_) => Err(Failure::WriteFault),
+    }
+}
+
+// The bytes that answer a request for a system.
+fn answer_text<R: Recorder>(
+    alloc: Global,
+    system: &System,
+    request: Request,
+    recorders: &mut Vec<R>,
+) -> Result<Text, Failure>
+    requires built { can_answer request ≡ true }
+    requires terms { (line : LineParts) × IsRequestOf line request }
+    ensures text { IfOk result (IsAnswer request (map R.seen recorders.old.items) system.now) }
+    ensures failure { IfErr result (λ failure. IsTextFailure request failure) }
+    ensures recorders { Leaves R.seen request recorders.old.items recorders.new.items }
+    ensures kept { IfOk result (λ text. Keeps R.seen R.refusals request recorders.old.items recorders.new.items) }
+    ensures refused_hour { result ≡ Err Failure.RecorderRefused →
+        IsRefusedBy R.seen R.refusals request recorders.old.items recorders.new.items }
+{
+    if let Request::Trace(terms) = request {
+        return make_trace_text(alloc, system, terms, recorders);
+    }
+    match make_answer(alloc, system, request) {
+        Ok(text) => Ok(text),
+        Err(OutOfMemory) => Err(Failure::OutOfMemory),
     }
 }
 
