@@ -11,11 +11,12 @@ use Rattle.system_model.specs.System.{SystemParts}
 use Rattle.sample_totals.specs.Recorders.{Seen}
 use Rattle.sample_run.specs.declared.traces.TraceError.{TraceError}
 use Rattle.sample_run.specs.declared.traces.TraceError.TheVariants as trace
-use Rattle.adequacy.specs.Commands.{IsAnswer, is_trace}
+use Rattle.adequacy.specs.Commands.{IsAnswer}
 use Rattle.report_text.specs.FaultText.{table_text, fault_line}
 use Rattle.adequacy.specs.Folder.{folder_outcome, no_tables, table_order, HasRead, stored_tables}
 use Rattle.adequacy.specs.LineParts.{LineParts}
 use Rattle.adequacy.specs.Requests.{request_of}
+use Rattle.adequacy.specs.Traces.{Leaves}
 use Rattle.adequacy.specs.WordFaultText.{word_fault_text}
 use Rattle.adequacy.specs.declared.endings.Failure.{Failure}
 use Rattle.adequacy.specs.declared.endings.Failure.TheVariants.{Words, Refused, ReadFault, WriteFault, RecorderRefused, OutOfMemory}
@@ -51,12 +52,6 @@ failure_of_words words.OutOfMemory = OutOfMemory
 abbrev pub failure_of_trace : TraceError → Failure
 failure_of_trace (trace.Refused at hour) = RecorderRefused
 failure_of_trace (trace.OutOfMemory at hour) = OutOfMemory
-
--- whether a failure is one that a trace may have
-abbrev pub is_trace_failure : Failure → Bool
-is_trace_failure RecorderRefused = true
-is_trace_failure OutOfMemory = true
-is_trace_failure failure = false
 
 -- the failure of a run that has no words to read
 abbrev pub unread_failure : Unread → Failure
@@ -121,7 +116,7 @@ Answers request seen system (Ok done) before now = AnswerGained request seen sys
 Answers request seen system (Err WriteFault) before now =
     (text : List ℕ) × IsAnswer request seen system text × GainedPart before now text
 Answers request seen system (Err OutOfMemory) before now = now ≡ before
-Answers request seen system (Err RecorderRefused) before now = (is_trace request ≡ true) × (now ≡ before)
+Answers request seen system (Err RecorderRefused) before now = now ≡ before
 Answers request seen system (Err (Words fault)) before now = ⊥
 Answers request seen system (Err (Refused refusal)) before now = ⊥
 Answers request seen system (Err ReadFault) before now = ⊥
@@ -146,11 +141,6 @@ abbrev pub is_sink_failure : Ending → Bool
 is_sink_failure (Err WriteFault) = true
 is_sink_failure ending = false
 
--- whether a folder gave no system
-abbrev pub is_folder_failure : Ending → Bool
-is_folder_failure (Err (Refused refusal)) = true
-is_folder_failure ending = is_shelf_failure ending
-
 -- whether a status says so
 abbrev pub says_read_fault : Status → Bool
 says_read_fault status.ReadFault = true
@@ -159,10 +149,6 @@ says_read_fault ends = false
 abbrev pub says_write_fault : Status → Bool
 says_write_fault status.WriteFault = true
 says_write_fault ends = false
-
-abbrev pub says_refused : Status → Bool
-says_refused status.Table = true
-says_refused ends = says_read_fault ends
 
 -- whether `out` may have gained a byte
 abbrev pub may_have_written : Ending → Bool
@@ -208,8 +194,12 @@ IsAsked asked (Err (Words fault)) = asked ≡ Err fault
 IsAsked asked (Err OutOfMemory) = Unit {0}
 IsAsked asked (Err _) = ⊥
 
--- why no text was made: memory wasn't found, or a recorder refused
-abbrev pub IsTextFailure : Request → Failure → Type 0
-IsTextFailure request OutOfMemory = Unit {0}
-IsTextFailure request RecorderRefused = is_trace request ≡ true
-IsTextFailure request failure = ⊥
+-- the text that answers a request, with the recorders that are left; where none was made, memory wasn't found, or a
+-- recorder refused
+abbrev pub HasText : {R : Type 0} → (R → Seen) → (R → ℕ) → Request → SystemParts → Result (List ℕ) Failure → List R → List R → Type 0
+HasText see count request system (Ok text) before now =
+    IsAnswer request (map see before) system text × Leaves see count request status.Done before now
+HasText see count request system (Err OutOfMemory) before now = Leaves see count request status.OutOfMemory before now
+HasText see count request system (Err RecorderRefused) before now =
+    Leaves see count request status.RecorderRefused before now
+HasText see count request system (Err failure) before now = ⊥

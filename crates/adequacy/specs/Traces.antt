@@ -1,12 +1,16 @@
 -- What a trace writes, and what it leaves of the recorders.
-use Rattle.std.specs.Prelude.{◌≡◌, ◌⊎◌, ℕ, ◌==◌, ◌<◌, Bool, true, List, [], map, length, Option, None, Some}
+use Rattle.std.specs.Prelude.{◌≡◌, ◌⊎◌, ℕ, ◌==◌, ◌<◌, Bool, true, List, [], map, length, Option, None, Some, Result, Ok, Err}
 use Rattle.std.specs.List.{filter, flat_map}
+use Rattle.ra_base.specs.declared.status.Status.{Status}
+use Rattle.ra_base.specs.declared.status.Status.TheVariants as status
 use Rattle.system_model.specs.System.{SystemParts}
 use Rattle.sample_totals.specs.Recorders.{Seen}
 use Rattle.sample_run.specs.Trace.{HasLines, CountsAt}
+use Rattle.adequacy.specs.declared.endings.Failure.{Failure}
+use Rattle.adequacy.specs.declared.endings.Failure.TheVariants.{Words, Refused, ReadFault, WriteFault, RecorderRefused, OutOfMemory}
 use Rattle.adequacy.specs.declared.words.request.TraceTerms.{TraceTerms}
 use Rattle.adequacy.specs.declared.words.request.Request.{Request}
-use Rattle.adequacy.specs.declared.words.request.Request.TheVariants.{Trace}
+use Rattle.adequacy.specs.declared.words.request.Request.TheVariants.{Check, Table, Index, Credit, Trace, Study, Trial, Console}
 
 -- whether a kind is chosen: the one that is named, or each where none is
 abbrev pub is_chosen : Option ℕ → ℕ → Bool
@@ -40,10 +44,24 @@ untold seen = record seen { text = [] }
 abbrev pub AreChosen : Option ℕ → List Seen → List Seen → Type 0
 AreChosen named before now = map untold now ≡ map untold (chosen named before)
 
--- what a request leaves of the recorders: a trace the chosen ones, or all where it ended before; any other all
-abbrev pub Leaves : {R : Type 0} → (R → Seen) → Request → List R → List R → Type 0
-Leaves see (Trace terms) before now = (now ≡ before) ⊎ AreChosen terms.recorder (map see before) (map see now)
-Leaves see request before now = now ≡ before
+-- recorders have their lines, and none has counted a refusal
+pub record HasAllLines {R : Type 0} (see : R → Seen) (count : R → ℕ) (system : SystemParts) (terms : TraceTerms) (before now : List R) : Type 0 where
+  pub lines : HasLines system terms.seed terms.sample (map see before) (map see now)
+  pub counts : map count now ≡ map count before
+
+-- recorders are of their kinds and with their lines, and one of them has counted a refusal
+pub record HasOneRefused {R : Type 0} (see : R → Seen) (count : R → ℕ) (before now : List R) : Type 0 where
+  pub told : map untold (map see now) ≡ map untold (map see before)
+  pub place : ℕ
+  pub within : place < length before
+  pub counts : CountsAt place true (map count before) (map count now)
+
+-- recorders after the hours of a sample: each has its lines, or one of them refused, or memory wasn't found
+abbrev pub HasTraced : {R : Type 0} → (R → Seen) → (R → ℕ) → SystemParts → TraceTerms → Result (Unit {0}) Failure → List R → List R → Type 0
+HasTraced see count system terms (Ok done) before now = HasAllLines see count system terms before now
+HasTraced see count system terms (Err RecorderRefused) before now = HasOneRefused see count before now
+HasTraced see count system terms (Err OutOfMemory) before now = map untold (map see now) ≡ map untold (map see before)
+HasTraced see count system terms (Err failure) before now = ⊥
 
 -- the chosen recorders are left, and none has counted a refusal
 pub record HasKept {R : Type 0} (see : R → Seen) (count : R → ℕ) (named : Option ℕ) (before now : List R) : Type 0 where
@@ -54,15 +72,26 @@ pub record HasKept {R : Type 0} (see : R → Seen) (count : R → ℕ) (named : 
 pub record HasRefused {R : Type 0} (see : R → Seen) (count : R → ℕ) (named : Option ℕ) (before now : List R) : Type 0 where
   pub are : AreChosen named (map see before) (map see now)
   pub place : ℕ
-  pub within : place < length now
+  pub within : place < length (kept see named before)
   pub counts : CountsAt place true (map count (kept see named before)) (map count now)
 
--- what a request leaves that went through
-abbrev pub Keeps : {R : Type 0} → (R → Seen) → (R → ℕ) → Request → List R → List R → Type 0
-Keeps see count (Trace terms) before now = HasKept see count terms.recorder before now
-Keeps see count request before now = now ≡ before
+-- the recorders after a trace, and its text: where it wasn't made, one of the chosen ones refused, or memory wasn't
+-- found
+abbrev pub IsTraced : {R : Type 0} → (R → Seen) → (R → ℕ) → SystemParts → TraceTerms → Result (List ℕ) Failure → List R → List R → Type 0
+IsTraced see count system terms (Ok text) before now =
+    IsTraceText system terms (map see before) text × HasKept see count terms.recorder before now
+IsTraced see count system terms (Err RecorderRefused) before now = HasRefused see count terms.recorder before now
+IsTraced see count system terms (Err OutOfMemory) before now = AreChosen terms.recorder (map see before) (map see now)
+IsTraced see count system terms (Err failure) before now = ⊥
 
--- a trace was refused by a recorder that it kept
-abbrev pub IsRefusedBy : {R : Type 0} → (R → Seen) → (R → ℕ) → Request → List R → List R → Type 0
-IsRefusedBy see count (Trace terms) before now = HasRefused see count terms.recorder before now
-IsRefusedBy see count request before now = ⊥
+-- what a request leaves of the recorders, by the status that it ends with. A trace that went through leaves the chosen
+-- ones, one that found no memory perhaps all; a trace alone is refused by a recorder, and no other request touches any
+abbrev pub Leaves : {R : Type 0} → (R → Seen) → (R → ℕ) → Request → Status → List R → List R → Type 0
+Leaves see count (Trace terms) status.Done before now = HasKept see count terms.recorder before now
+Leaves see count (Trace terms) status.WriteFault before now = HasKept see count terms.recorder before now
+Leaves see count (Trace terms) status.RecorderRefused before now = HasRefused see count terms.recorder before now
+Leaves see count (Trace terms) status.OutOfMemory before now =
+    (now ≡ before) ⊎ AreChosen terms.recorder (map see before) (map see now)
+Leaves see count (Trace terms) ends before now = now ≡ before
+Leaves see count request status.RecorderRefused before now = ⊥
+Leaves see count request ends before now = now ≡ before

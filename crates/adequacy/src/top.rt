@@ -5,12 +5,12 @@ ghost use Rattle.ra_base.specs.Causes.{Counts, Rose};
 ghost use Rattle.ra_base.specs.Outside.{Tables};
 ghost use Rattle.ra_base.specs.declared.table.TableBytes.{TableBytes};
 ghost use Rattle.system_model.specs.System.{SystemParts};
-ghost use Rattle.adequacy.specs.Commands.{IsAnswer, asked_line, can_answer, is_built as built};
-ghost use Rattle.adequacy.specs.Endings.{Answers, AnswerGained, Ends, Reports, Tells, HasRun, MayRun, IsAsked, IsTextFailure, RunsOn, is_shelf_failure, is_sink_failure, is_folder_failure, may_have_written, says_read_fault, says_refused, says_write_fault, says_written};
+ghost use Rattle.adequacy.specs.Commands.{asked_line, can_answer, is_built as built};
+ghost use Rattle.adequacy.specs.Endings.{Answers, AnswerGained, Ends, Reports, Tells, HasRun, HasText, MayRun, IsAsked, RunsOn, ending_status, is_shelf_failure, is_sink_failure, may_have_written, says_read_fault, says_write_fault, says_written};
 ghost use Rattle.adequacy.specs.Folder.{no_tables, table_order, HasRead, FolderSpells, IsRefused};
 ghost use Rattle.adequacy.specs.LineParts.{LineParts};
 ghost use Rattle.adequacy.specs.Requests.{IsRequestOf, request_of};
-ghost use Rattle.adequacy.specs.Traces.{IsRefusedBy, Keeps, Leaves};
+ghost use Rattle.adequacy.specs.Traces.{Leaves};
 ghost use Rattle.adequacy.specs.declared.endings.Failure.{Failure};
 ghost use Rattle.adequacy.specs.declared.tables.FolderError.{FolderError};
 ghost use Rattle.adequacy.specs.declared.tables.Refusal.{Refusal};
@@ -79,7 +79,8 @@ pub fn adequacy<S: Shelf, O: Sink, E: Sink, R: Recorder>(
         FolderSpells stored line.place system →
         ¬ Rose (S.counts shelf.old).faults (S.counts shelf.new).faults →
         ¬ Rose (O.faults out.old) (O.faults out.new) →
-        ¬ IsRefusedBy R.seen R.refusals (request_of line) recorders.old.items recorders.new.items →
+        ¬ Leaves R.seen R.refusals (request_of line) Status.RecorderRefused
+        recorders.old.items recorders.new.items →
         ((result ≡ Status.Done)
         × AnswerGained (request_of line) (map R.seen recorders.old.items) system (O.held out.old) (O.held out.new))
         ⊎ (result ≡ Status.OutOfMemory) }
@@ -93,17 +94,10 @@ pub fn adequacy<S: Shelf, O: Sink, E: Sink, R: Recorder>(
         (E.faults err.old) (E.faults err.new)
         ⊎ (result ≡ Status.OutOfMemory) }
 
-    // Only a trace that comes to its hours touches the recorders. It keeps the chosen ones, and is refused only
-    // where one of these counted it.
+    // Only a trace touches the recorders: it drops those that aren't chosen, and is refused only where one that
+    // it kept counted it.
     ensures recorders { (line : LineParts) → asked_line (map string_bytes words.now) ≡ Ok line →
-        Leaves R.seen (request_of line) recorders.old.items recorders.new.items }
-    ensures unread { says_refused result ≡ true → recorders.new.items ≡ recorders.old.items }
-    ensures kept { (line : LineParts) → asked_line (map string_bytes words.now) ≡ Ok line →
-        says_written result ≡ true →
-        Keeps R.seen R.refusals (request_of line) recorders.old.items recorders.new.items }
-    ensures refused_hour { (line : LineParts) → asked_line (map string_bytes words.now) ≡ Ok line →
-        result ≡ Status.RecorderRefused →
-        IsRefusedBy R.seen R.refusals (request_of line) recorders.old.items recorders.new.items }
+        Leaves R.seen R.refusals (request_of line) result recorders.old.items recorders.new.items }
 {
     match ask(alloc, words) {
         Ok(line) => run_line(alloc, &line, shelf, out, err, recorders),
@@ -143,12 +137,8 @@ fn run_line<S: Shelf, O: Sink, E: Sink, R: Recorder>(
     ensures unwritten { says_written result ≡ false → out.new ≡ out.old }
     ensures done { result ≡ Status.Done → err.new ≡ err.old }
     ensures words { result ≡ Status.Words → ⊥ }
-    ensures recorders { Leaves R.seen (request_of line.now) recorders.old.items recorders.new.items }
-    ensures unread { says_refused result ≡ true → recorders.new.items ≡ recorders.old.items }
-    ensures kept { says_written result ≡ true →
-        Keeps R.seen R.refusals (request_of line.now) recorders.old.items recorders.new.items }
-    ensures refused_hour { result ≡ Status.RecorderRefused →
-        IsRefusedBy R.seen R.refusals (request_of line.now) recorders.old.items recorders.new.items }
+    ensures recorders { Leaves R.seen R.refusals (request_of line.now) result
+        recorders.old.items recorders.new.items }
     ensures run { HasRun (S.contents shelf.old) line.now (map R.seen recorders.old.items)
         result (S.reads shelf.old) (S.reads shelf.new) (S.counts shelf.old) (S.counts shelf.new)
         (O.held out.old) (O.held out.new) (E.held err.old) (E.held err.new)
@@ -179,12 +169,8 @@ fn run<S: Shelf, O: Sink, R: Recorder>(
         (S.counts shelf.old).faults (S.counts shelf.new).faults }
     ensures write_faults { Counts (is_sink_failure result) (O.faults out.old) (O.faults out.new) }
     ensures unwritten { may_have_written result ≡ false → out.new ≡ out.old }
-    ensures recorders { Leaves R.seen (request_of line.now) recorders.old.items recorders.new.items }
-    ensures unread { is_folder_failure result ≡ true → recorders.new.items ≡ recorders.old.items }
-    ensures kept { may_have_written result ≡ true →
-        Keeps R.seen R.refusals (request_of line.now) recorders.old.items recorders.new.items }
-    ensures refused_hour { result ≡ Err Failure.RecorderRefused →
-        IsRefusedBy R.seen R.refusals (request_of line.now) recorders.old.items recorders.new.items }
+    ensures recorders { Leaves R.seen R.refusals (request_of line.now) (ending_status result)
+        recorders.old.items recorders.new.items }
 {
     match read_folder(alloc, line.place.text(), shelf) {
         Ok(system) => answer(alloc, &system, line.request(), out, recorders),
@@ -204,20 +190,18 @@ fn answer<O: Sink, R: Recorder>(
     requires terms { (line : LineParts) × IsRequestOf line request }
     ensures answer { Answers request (map R.seen recorders.old.items) system.now result
         (O.held out.old) (O.held out.new) }
-    ensures read { is_folder_failure result ≡ false }
     ensures read_faults { is_shelf_failure result ≡ false }
     ensures write_faults { Counts (is_sink_failure result) (O.faults out.old) (O.faults out.new) }
     ensures unwritten { may_have_written result ≡ false → out.new ≡ out.old }
-    ensures recorders { Leaves R.seen request recorders.old.items recorders.new.items }
-    ensures kept { may_have_written result ≡ true →
-        Keeps R.seen R.refusals request recorders.old.items recorders.new.items }
-    ensures refused_hour { result ≡ Err Failure.RecorderRefused →
-        IsRefusedBy R.seen R.refusals request recorders.old.items recorders.new.items }
+    ensures recorders { Leaves R.seen R.refusals request (ending_status result)
+        recorders.old.items recorders.new.items }
 {
-    let text = answer_text(alloc, system, request, recorders)?;
-    match out.write(text.bytes()) {
-        Ok(()) => Ok(()),
-        Err(_) => Err(Failure::WriteFault),
+    match answer_text(alloc, system, request, recorders) {
+        Ok(text) => match out.write(text.bytes()) {
+            Ok(()) => Ok(()),
+            Err(_) => Err(Failure::WriteFault),
+        },
+        Err(failure) => Err(failure),
     }
 }
 
@@ -230,19 +214,14 @@ fn answer_text<R: Recorder>(
 ) -> Result<Text, Failure>
     requires built { can_answer request ≡ true }
     requires terms { (line : LineParts) × IsRequestOf line request }
-    ensures text { IfOk result (IsAnswer request (map R.seen recorders.old.items) system.now) }
-    ensures failure { IfErr result (λ failure. IsTextFailure request failure) }
-    ensures recorders { Leaves R.seen request recorders.old.items recorders.new.items }
-    ensures kept { IfOk result (λ text. Keeps R.seen R.refusals request recorders.old.items recorders.new.items) }
-    ensures refused_hour { result ≡ Err Failure.RecorderRefused →
-        IsRefusedBy R.seen R.refusals request recorders.old.items recorders.new.items }
+    ensures { HasText R.seen R.refusals request system.now result recorders.old.items recorders.new.items }
 {
-    if let Request::Trace(terms) = request {
-        return make_trace_text(alloc, system, terms, recorders);
-    }
-    match make_answer(alloc, system, request) {
-        Ok(text) => Ok(text),
-        Err(OutOfMemory) => Err(Failure::OutOfMemory),
+    match request {
+        Request::Trace(terms) => make_trace_text(alloc, system, terms, recorders),
+        _ => match make_answer(alloc, system, request) {
+            Ok(text) => Ok(text),
+            Err(OutOfMemory) => Err(Failure::OutOfMemory),
+        },
     }
 }
 

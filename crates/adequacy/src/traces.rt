@@ -1,8 +1,7 @@
 //! The answer to a trace: one sample's hours go through the chosen recorders, and their texts are written.
-ghost use Rattle.std.specs.Prelude.{◌≡◌, IfErr, IfOk, Err, map, true};
-ghost use Rattle.adequacy.specs.Endings.{failure_of_trace, is_trace_failure};
-ghost use Rattle.adequacy.specs.Traces.{AreChosen, HasKept, HasRefused, IsTraceText, is_chosen as chooses, kept, texts};
-ghost use Rattle.adequacy.specs.declared.endings.Failure.{Failure};
+ghost use Rattle.std.specs.Prelude.{◌≡◌, IfOk, map};
+ghost use Rattle.adequacy.specs.Endings.{failure_of_trace};
+ghost use Rattle.adequacy.specs.Traces.{HasTraced, IsTraced, is_chosen as chooses, kept, texts};
 
 use crate::endings::Failure;
 use crate::words::TraceTerms;
@@ -19,23 +18,32 @@ pub(crate) fn make_trace_text<R: Recorder>(
     terms: TraceTerms,
     recorders: &mut Vec<R>,
 ) -> Result<Text, Failure>
-    ensures text { IfOk result (IsTraceText system.now terms (map R.seen recorders.old.items)) }
-    ensures left { AreChosen terms.recorder (map R.seen recorders.old.items) (map R.seen recorders.new.items) }
-    ensures kept { IfOk result (λ text. HasKept R.seen R.refusals terms.recorder
-        recorders.old.items recorders.new.items) }
-    ensures failure { IfErr result (λ failure. is_trace_failure failure ≡ true) }
-    ensures refused { result ≡ Err Failure.RecorderRefused → HasRefused R.seen R.refusals terms.recorder
-        recorders.old.items recorders.new.items }
+    ensures { IsTraced R.seen R.refusals system.now terms result recorders.old.items recorders.new.items }
 {
     keep_chosen(recorders, terms.recorder);
-    let Ok(mut runner) = Runner::new(alloc, system, terms.seed) else {
-        return Err(Failure::OutOfMemory);
-    };
-    if let Err(error) = runner.trace(terms.sample, recorders) {
-        return Err(trace_failure(error));
+    match trace(alloc, system, terms, recorders) {
+        Ok(()) => match texts_of(alloc, recorders) {
+            Ok(text) => Ok(text),
+            Err(OutOfMemory) => Err(Failure::OutOfMemory),
+        },
+        Err(failure) => Err(failure),
     }
-    match texts_of(alloc, recorders) {
-        Ok(text) => Ok(text),
+}
+
+// Gives the hours of a sample to recorders.
+fn trace<R: Recorder>(
+    alloc: Global,
+    system: &System,
+    terms: TraceTerms,
+    recorders: &mut [R],
+) -> Result<(), Failure>
+    ensures { HasTraced R.seen R.refusals system.now terms result recorders.old recorders.new }
+{
+    match Runner::new(alloc, system, terms.seed) {
+        Ok(mut runner) => match runner.trace(terms.sample, recorders) {
+            Ok(()) => Ok(()),
+            Err(error) => Err(trace_failure(error)),
+        },
         Err(OutOfMemory) => Err(Failure::OutOfMemory),
     }
 }
