@@ -20,7 +20,9 @@ use Rattle.adequacy.specs.declared.words.fault.WordFault.{WordFault}
 use Rattle.adequacy.specs.declared.words.request.Request.{Request}
 use Rattle.adequacy.specs.Folder.{no_tables, table_order, stored_tables, stored_from, folder_outcome, FolderSpells, IsRefused}
 use Rattle.adequacy.specs.Endings.{Ending, AnswerGained, Ends, Tells, HasRun, IsAsked, Reports, RunsOn, says_read_fault, says_write_fault}
+use Rattle.adequacy.specs.Traces.{Leaves}
 use Rattle.adequacy.proofs.StoredLemmas.{IsUnless, told_outcome}
+use Rattle.adequacy.proofs.TraceLemmas.{left_alone}
 
 -- words ask for one line
 pub same_line : {asked : Result LineParts WordFault} {a b : LineParts} → asked ≡ Ok a → asked ≡ Ok b → a ≡ b
@@ -81,6 +83,19 @@ failed_on asked stored line seen OutOfMemory ends held said said' f f' is asks t
   ended = inr refl;
   told = told;
 }
+
+-- and leaves all recorders
+pub failed_left : {R : Type 0} (see : R → Seen) (count : R → ℕ) (asked : Result LineParts WordFault) (line : LineParts) (failure : Failure) (ends : Status) (recorders : List R) (said said' : Option (List ℕ)) (faults faults' : ℕ)
+    → IsAsked asked (Err failure) → asked ≡ Ok line → Reports failure ends said said' faults faults'
+    → Leaves see count (request_of line) ends recorders recorders
+failed_left see count asked line (Words fault) ends recorders said said' f f' is asks told = absurd (cc)
+failed_left see count asked line (Refused refusal) ends recorders said said' f f' is asks told = absurd is
+failed_left see count asked line ReadFault ends recorders said said' f f' is asks told = absurd is
+failed_left see count asked line WriteFault ends recorders said said' f f' is asks told = absurd is
+failed_left see count asked line RecorderRefused ends recorders said said' f f' is asks told = absurd is
+failed_left see count asked line OutOfMemory ends recorders said said' f f' is asks told =
+    subst (λ (s : Status). Leaves see count (request_of line) s recorders recorders) (sym told.0)
+    (left_alone see count (request_of line) recorders recorders refl)
 
 -- no fault was counted, so none is answered
 not_read_fault : (ends : Status) (faults faults' : ℕ) → Counts (says_read_fault ends) faults faults' → (Rose faults faults' → ⊥) → ends ≡ status.ReadFault → ⊥

@@ -1,5 +1,6 @@
 use Rattle.adequacy.specs.Requests.{request_of}
 use Rattle.adequacy.proofs.ReportLemmas.{told_of}
+use Rattle.adequacy.proofs.TraceLemmas.{left_told}
 use Rattle.adequacy.proofs.top.run_line.Goals as goal
 
 pub returns-in-Err-clause-run : goal.returns-in-Err-clause-run
@@ -12,3 +13,7 @@ returns-in-Err-clause-run g c =
       ended = told.1;
       told = told.2;
     }
+
+pub returns-in-Err-clause-recorders : goal.returns-in-Err-clause-recorders
+returns-in-Err-clause-recorders g c =
+    left_told g.R.Recorder.seen g.R.Recorder.refusals (request_of c.args.line.now) c.in-Err.failure _ _ _ _ _ _ _ c.in-Err.ensures.recorders c.report.ensures
