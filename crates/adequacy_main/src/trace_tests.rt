@@ -103,9 +103,6 @@ const NINES: &str = "nine nine nine nine ";
 // One recorder of each kind, as the program has them.
 const EACH: &[Made] = &[Made::Plain, Made::Shortfall, Made::Storage, Made::Cut];
 
-// One that gives all lines, one that refuses an hour, and one that has no line.
-const REFUSED: &str = "recorder refused\n";
-
 const CASES: [Case; 10] = [
     Case {
         options: &["--result", "plain"],
