@@ -6,7 +6,6 @@ use Rattle.ra_base.specs.declared.status.Status.TheVariants as status
 use Rattle.system_model.specs.System.{SystemParts}
 use Rattle.sample_totals.specs.declared.outcomes.HourOutcome.{HourOutcome}
 use Rattle.sample_totals.specs.Recorders.{Seen}
-use Rattle.sample_run.specs.Run.{Simulation}
 use Rattle.sample_run.specs.Trace.{with_lines, with_line_before, place_of, hour_of, is_refusal, HasLines, HasBroken, CountsAt}
 use Rattle.sample_run.specs.declared.traces.TraceError.{TraceError}
 use Rattle.sample_run.specs.declared.traces.TraceError.TheVariants as stop
@@ -60,34 +59,29 @@ told_broken see system seed sample place hour before now lines =
     ∙ untold-lines lines.0 (map see before)
 
 -- a sample's hours have gone through recorders,
-pub traced_all : {R : Type 0} (see : R → Seen) (count : R → ℕ) (system : SystemParts) (terms : TraceTerms) (runner : Simulation) (before now : List R)
-    → runner ≡ record { system = system; seed = terms.seed }
-    → HasLines runner.system runner.seed terms.sample (map see before) (map see now)
-    → map count now ≡ map count before
-    → HasTraced see count system terms (Ok tt) before now
-traced_all see count system terms runner before now is lines counts = record {
-  lines = subst (λ (r : Simulation). HasLines r.system r.seed terms.sample (map see before) (map see now)) is lines;
-  counts = counts;
-}
+pub traced_all : {R : Type 0} (see : R → Seen) (count : R → ℕ) (system : SystemParts) (seed sample : ℕ) (before now : List R)
+    → HasLines system seed sample (map see before) (map see now) → map count now ≡ map count before
+    → HasTraced see count system seed sample (Ok tt) before now
+traced_all see count system seed sample before now lines counts = record { lines = lines; counts = counts }
 
 -- or have broken off
-pub traced_part : {R : Type 0} (see : R → Seen) (count : R → ℕ) (system : SystemParts) (terms : TraceTerms) (runner : Simulation) (error : TraceError) (before now : List R)
-    → HasBroken runner.system runner.seed terms.sample (place_of error) (hour_of error) (map see before) (map see now)
+pub traced_part : {R : Type 0} (see : R → Seen) (count : R → ℕ) (system : SystemParts) (seed sample : ℕ) (error : TraceError) (before now : List R)
+    → HasBroken system seed sample (place_of error) (hour_of error) (map see before) (map see now)
     → place_of error < length before
     → CountsAt (place_of error) (is_refusal error) (map count before) (map count now)
-    → HasTraced see count system terms (Err (failure_of_trace error)) before now
-traced_part see count system terms runner (stop.Refused at hour) before now broken within counts = record {
-  told = told_broken see runner.system runner.seed terms.sample at hour before now broken;
+    → HasTraced see count system seed sample (Err (failure_of_trace error)) before now
+traced_part see count system seed sample (stop.Refused at hour) before now broken within counts = record {
+  told = told_broken see system seed sample at hour before now broken;
   place = at;
   within = within;
   counts = counts;
 }
-traced_part see count system terms runner (stop.OutOfMemory at hour) before now broken within counts =
-    told_broken see runner.system runner.seed terms.sample at hour before now broken
+traced_part see count system seed sample (stop.OutOfMemory at hour) before now broken within counts =
+    told_broken see system seed sample at hour before now broken
 
 -- the texts after all hours are those of the trace
 pub trace_made : {R : Type 0} (see : R → Seen) (count : R → ℕ) (system : SystemParts) (terms : TraceTerms) (before left now : List R) (bytes : List ℕ)
-    → left ≡ kept see terms.recorder before → HasTraced see count system terms (Ok tt) left now
+    → left ≡ kept see terms.recorder before → HasTraced see count system terms.seed terms.sample (Ok tt) left now
     → bytes ≡ texts (map see now) → IsTraced see count system terms (Ok bytes) before now
 trace_made see count system terms before left now bytes is traced there = (
   record {
@@ -107,7 +101,7 @@ trace_made see count system terms before left now bytes is traced there = (
 
 -- memory for them wasn't found
 pub trace_unmade : {R : Type 0} (see : R → Seen) (count : R → ℕ) (system : SystemParts) (terms : TraceTerms) (before left now : List R)
-    → left ≡ kept see terms.recorder before → HasTraced see count system terms (Ok tt) left now
+    → left ≡ kept see terms.recorder before → HasTraced see count system terms.seed terms.sample (Ok tt) left now
     → IsTraced see count system terms (Err OutOfMemory) before now
 trace_unmade see count system terms before left now is traced =
     chosen_left see terms.recorder before left now is
@@ -115,7 +109,7 @@ trace_unmade see count system terms before left now is traced =
 
 -- the hours broke off
 pub trace_stopped : {R : Type 0} (see : R → Seen) (count : R → ℕ) (system : SystemParts) (terms : TraceTerms) (failure : Failure) (before left now : List R)
-    → left ≡ kept see terms.recorder before → HasTraced see count system terms (Err failure) left now
+    → left ≡ kept see terms.recorder before → HasTraced see count system terms.seed terms.sample (Err failure) left now
     → IsTraced see count system terms (Err failure) before now
 trace_stopped see count system terms RecorderRefused before left now is traced = record {
   are = chosen_left see terms.recorder before left now is traced.told;

@@ -45,8 +45,8 @@ abbrev pub AreChosen : Option ℕ → List Seen → List Seen → Type 0
 AreChosen named before now = map untold now ≡ map untold (chosen named before)
 
 -- recorders have their lines, and none has counted a refusal
-pub record HasAllLines {R : Type 0} (see : R → Seen) (count : R → ℕ) (system : SystemParts) (terms : TraceTerms) (before now : List R) : Type 0 where
-  pub lines : HasLines system terms.seed terms.sample (map see before) (map see now)
+pub record HasAllLines {R : Type 0} (see : R → Seen) (count : R → ℕ) (system : SystemParts) (seed sample : ℕ) (before now : List R) : Type 0 where
+  pub lines : HasLines system seed sample (map see before) (map see now)
   pub counts : map count now ≡ map count before
 
 -- recorders are of their kinds and with their lines, and one of them has counted a refusal
@@ -57,11 +57,11 @@ pub record HasOneRefused {R : Type 0} (see : R → Seen) (count : R → ℕ) (be
   pub counts : CountsAt place true (map count before) (map count now)
 
 -- recorders after the hours of a sample: each has its lines, or one of them refused, or memory wasn't found
-abbrev pub HasTraced : {R : Type 0} → (R → Seen) → (R → ℕ) → SystemParts → TraceTerms → Result (Unit {0}) Failure → List R → List R → Type 0
-HasTraced see count system terms (Ok done) before now = HasAllLines see count system terms before now
-HasTraced see count system terms (Err RecorderRefused) before now = HasOneRefused see count before now
-HasTraced see count system terms (Err OutOfMemory) before now = map untold (map see now) ≡ map untold (map see before)
-HasTraced see count system terms (Err failure) before now = ⊥
+abbrev pub HasTraced : {R : Type 0} → (R → Seen) → (R → ℕ) → SystemParts → ℕ → ℕ → Result (Unit {0}) Failure → List R → List R → Type 0
+HasTraced see count system seed sample (Ok done) before now = HasAllLines see count system seed sample before now
+HasTraced see count system seed sample (Err RecorderRefused) before now = HasOneRefused see count before now
+HasTraced see count system seed sample (Err OutOfMemory) before now = map untold (map see now) ≡ map untold (map see before)
+HasTraced see count system seed sample (Err failure) before now = ⊥
 
 -- the chosen recorders are left, and none has counted a refusal
 pub record HasKept {R : Type 0} (see : R → Seen) (count : R → ℕ) (named : Option ℕ) (before now : List R) : Type 0 where

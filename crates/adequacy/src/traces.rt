@@ -37,14 +37,32 @@ fn trace<R: Recorder>(
     terms: TraceTerms,
     recorders: &mut [R],
 ) -> Result<(), Failure>
-    ensures { HasTraced R.seen R.refusals system.now terms result recorders.old recorders.new }
+    ensures { HasTraced R.seen R.refusals system.now terms.seed terms.sample result
+        recorders.old recorders.new }
 {
     match Runner::new(alloc, system, terms.seed) {
-        Ok(mut runner) => match runner.trace(terms.sample, recorders) {
-            Ok(()) => Ok(()),
-            Err(error) => Err(trace_failure(error)),
-        },
+        Ok(mut runner) => {
+            let traced = give_hours(&mut runner, terms.sample, recorders);
+            // Moved whole into the call, since a drop here would drop each of its lists in this function.
+            drop(runner);
+            traced
+        }
         Err(OutOfMemory) => Err(Failure::OutOfMemory),
+    }
+}
+
+// Gives the hours of a runner's sample to recorders.
+fn give_hours<R: Recorder>(
+    runner: &mut Runner<'_>,
+    sample: u32,
+    recorders: &mut [R],
+) -> Result<(), Failure>
+    ensures { HasTraced R.seen R.refusals runner.old.system runner.old.seed sample result
+        recorders.old recorders.new }
+{
+    match runner.trace(sample, recorders) {
+        Ok(()) => Ok(()),
+        Err(error) => Err(trace_failure(error)),
     }
 }
 
