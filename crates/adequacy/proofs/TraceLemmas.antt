@@ -1,5 +1,6 @@
 -- What a trace does to the recorders, over what is seen of them.
-use Rattle.std.proofs.Common.{◌≡◌, ◌⊎◌, ℕ, ◌<◌, zero, suc, Bool, true, false, List, [], ◌∷◌, ◌++◌, map, length, Option, Result, Ok, Err, cond, refl, sym, ap, ◌∙◌, subst, inl, inr}
+use Rattle.std.proofs.Common.{◌≡◌, ◌⊎◌, ℕ, ◌<◌, zero, suc, Bool, true, false, List, [], ◌∷◌, ◌++◌, map, length, Option, Result, Ok, Err, cond, refl, sym, ap, ◌∙◌, subst, inl, inr, take, drop, arith}
+use Rattle.std.proofs.lemmas.List.{length-map, take-append-le, take_all}
 use Rattle.ra_base.specs.Causes.{Counts}
 use Rattle.ra_base.specs.declared.status.Status.{Status}
 use Rattle.ra_base.specs.declared.status.Status.TheVariants as status
@@ -78,6 +79,31 @@ traced_part see count system seed sample (stop.Refused at hour) before now broke
 }
 traced_part see count system seed sample (stop.OutOfMemory at hour) before now broken within counts =
     told_broken see system seed sample at hour before now broken
+
+same_size : {R : Type 0} (see : R → Seen) (before now : List R) → map untold (map see now) ≡ map untold (map see before)
+    → length now ≡ length before
+same_size see before now told =
+    sym (length-map now see) ∙ (sym (length-map (map see now) untold) ∙ (ap (λ (all : List Seen). length all) told
+    ∙ (length-map (map see before) untold ∙ length-map before see)))
+
+-- a trace leaves as many recorders,
+pub traced_size : {R : Type 0} (see : R → Seen) (count : R → ℕ) (system : SystemParts) (seed sample : ℕ) (made : Result (Unit {0}) Failure) (before now : List R)
+    → HasTraced see count system seed sample made before now → length now ≡ length before
+traced_size see count system seed sample (Ok done) before now traced =
+    same_size see before now (told_lines see system seed sample before now traced.lines)
+traced_size see count system seed sample (Err RecorderRefused) before now traced = same_size see before now traced.told
+traced_size see count system seed sample (Err OutOfMemory) before now traced = same_size see before now traced
+traced_size see count system seed sample (Err (Words fault)) before now traced = absurd traced
+traced_size see count system seed sample (Err (Refused refusal)) before now traced = absurd traced
+traced_size see count system seed sample (Err ReadFault) before now traced = absurd traced
+traced_size see count system seed sample (Err WriteFault) before now traced = absurd traced
+
+-- so the list that lent them holds just these
+pub written_back : {R : Type 0} (old lent now : List R) (n : ℕ) → length old ≡ n → lent ≡ old → length now ≡ length lent
+    → take n (now ++ drop (length now) old) ≡ now
+written_back old lent now n size is same =
+    let many = ap (λ (all : List _). length all) is in
+    take-append-le n now (drop (length now) old) (omega (arith, size, many, same)) ∙ take_all n now (omega (arith, size, many, same))
 
 -- the texts after all hours are those of the trace
 pub trace_made : {R : Type 0} (see : R → Seen) (count : R → ℕ) (system : SystemParts) (terms : TraceTerms) (before left now : List R) (bytes : List ℕ)
