@@ -3,7 +3,6 @@ ghost use Rattle.campaign_core.specs.Ranges.{range};
 ghost use Rattle.campaign_core.specs.Shares.{IsShare};
 ghost use Rattle.system_model.specs.System.{zone_count, interface_count};
 ghost use Rattle.sample_totals.specs.Estimates.{IsPrecision};
-ghost use Rattle.sample_run.specs.SampleWorks.{IsWorkOf, StandsFor};
 
 use crate::{Runner, SampleWork};
 use campaign_core::{Job, Share, Work};
@@ -595,43 +594,60 @@ fn ran<W: Work, J: Job<W> + Send>(
         → W.stands work sum (range first count ∷ [])) }
     ensures same { (work : W) → (J.serves job.old work ↔ J.serves job.new work) }
 {
-    match job.run(alloc, Share::of(first, count)) {
-        Ok(done) => {
-            let (share, sum) = done.into_parts();
-            share.abandon();
-            Ok(sum)
-        }
+    let done = match job.run(alloc, Share::of(first, count)) {
+        Ok(done) => done,
         Err((share, none)) => {
             share.abandon();
-            Err(none)
+            return Err(none);
         }
-    }
+    };
+    let (share, sum) = done.into_parts();
+    share.abandon();
+    Ok(sum)
 }
 
-// The totals of the first four samples by two shares, the later one first.
-fn gathered(
+// The sum of the first four samples by two shares, the later one first.
+fn gathered<W: Work, J: Job<W> + Send>(
     alloc: Global,
-    system: &System,
-    work: &SampleWork<'_>,
-) -> Result<Totals, OutOfMemory>
-    requires { IsWorkOf (record { system = system.now; seed = 1 }) work.now }
-    ensures { IfOk result (λ sum. StandsFor work.now.system work.now.seed sum (range 2 2 ∷ range 0 2 ∷ [])) }
+    work: &W,
+    job: &mut J,
+) -> Result<W::Sum, OutOfMemory>
+    requires { J.serves job.old work.now }
+    ensures { IfOk result (λ sum. W.stands work.now sum (range 2 2 ∷ range 0 2 ∷ [])) }
 {
-    let mut runner = Runner::new(alloc, system, 1)?;
-    let later = ran::<SampleWork<'_>, _>(alloc, &mut runner, 2, 2)?;
-    let earlier = ran::<SampleWork<'_>, _>(alloc, &mut runner, 0, 2)?;
+    let later = ran(alloc, job, 2, 2)?;
+    let earlier = ran(alloc, job, 0, 2)?;
     let mut sum = work.copy(alloc, &later)?;
     work.merge(&mut sum, &earlier)?;
     Ok(sum)
 }
 
-// Whether they are enough for a precision.
-fn are_enough(alloc: Global, system: &System, precision: Option<u16>) -> Result<bool, OutOfMemory>
+// Whether they are enough.
+fn are_enough<W: Work, J: Job<W> + Send>(
+    alloc: Global,
+    work: &W,
+    job: &mut J,
+) -> Result<bool, OutOfMemory>
+    requires { J.serves job.old work.now }
+{
+    let sum = gathered(alloc, work, job)?;
+    Ok(work.enough(&sum))
+}
+
+// The totals of a system's first four samples.
+fn first_four(alloc: Global, system: &System) -> Result<Totals, OutOfMemory> {
+    let mut runner = Runner::new(alloc, system, 1)?;
+    let work = SampleWork::new(system, 1, None);
+    gathered(alloc, &work, &mut runner)
+}
+
+// Whether these are enough for a precision.
+fn enough_at(alloc: Global, system: &System, precision: Option<u16>) -> Result<bool, OutOfMemory>
     requires { IfSome precision IsPrecision }
 {
+    let mut runner = Runner::new(alloc, system, 1)?;
     let work = SampleWork::new(system, 1, precision);
-    let sum = gathered(alloc, system, &work)?;
-    Ok(work.enough(&sum))
+    are_enough(alloc, &work, &mut runner)
 }
 
 // What may go to another thread, and be shared by threads.
@@ -655,19 +671,17 @@ fn shares_in_another_order_give_the_same_totals(rt: HostRuntime) -> Result<(), F
     };
     let alloc = rt.alloc();
     let system = system_of(&rt, alloc, &plan)?;
-    assert!(rt; system.zones() == 1);
     let work = SampleWork::new(&system, 1, None);
     assert_eq!(rt; work.empty(alloc)?.samples(), 0);
-    let sum = gathered(alloc, &system, &work)?;
+    let sum = first_four(alloc, &system)?;
     assert_eq!(rt; sum.samples(), 4);
     has_sums(&rt, &sum, [6, 4, 4, 90]);
-    has_zones(&rt, &sum, &[90]);
     has_cuts(&rt, &sum, &[(1, 6, 90)]);
     // The sum of squares is 2,100, and 10^6 * (4 * 2,100 - 90^2) is at most 112^2 * 90^2 * 3 and above that with
     // 111. By the hours 333 would be too few.
-    assert!(rt; are_enough(alloc, &system, Some(112))?);
-    assert!(rt; !are_enough(alloc, &system, Some(111))?);
-    assert!(rt; are_enough(alloc, &system, None)?);
+    assert!(rt; enough_at(alloc, &system, Some(112))?);
+    assert!(rt; !enough_at(alloc, &system, Some(111))?);
+    assert!(rt; enough_at(alloc, &system, None)?);
     may_be_sent(&Runner::new(alloc, &system, 1)?);
     may_be_sent(&work);
     may_be_sent(&sum);

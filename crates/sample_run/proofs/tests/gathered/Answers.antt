@@ -1,9 +1,7 @@
-use Rattle.std.proofs.Common.{[], ◌∷◌, arith, ap, ◌∙◌}
+use Rattle.std.proofs.Common.{[], ◌∷◌, arith}
 use Rattle.std.proofs.lemmas.Bool.Decides.{nat_tests}
 use Rattle.campaign_core.specs.Ranges.{range, AreDisjoint}
 use Rattle.campaign_core.proofs.Totals.{times-nil, times-cons}
-use Rattle.sample_run.specs.Run.{Simulation}
-use Rattle.sample_run.specs.SampleWorks.{WorkTerms, IsWorkOf}
 use Rattle.sample_run.proofs.tests.gathered.Goals as goal
 
 apart : AreDisjoint (range 2 2 ∷ range 0 2 ∷ [])
@@ -14,26 +12,16 @@ apart n =
     (grind (arith, nat_tests), λ h. grind (arith, nat_tests))
 
 pub merge-requires : goal.merge-requires
-merge-requires c =
-    let serves : IsWorkOf c.in_ok-runner.runner c.args.work.now =
-    record {
-      system = ap (λ (s : Simulation). s.system) c.in_ok-runner.ensures ∙ c.requires.system;
-      seed = ap (λ (s : Simulation). s.seed) c.in_ok-runner.ensures ∙ c.requires.seed;
-    } in (
-      range 2 2 ∷ [],
-      range 0 2 ∷ [],
-      c.in_ok-sum.ensures (range 2 2 ∷ []) (c.in_ok-later.ensures.sum c.args.work.now serves),
-      c.in_ok-earlier.ensures.sum c.args.work.now ((c.in_ok-later.ensures.same c.args.work.now).0 serves),
-      apart,
-    )
+merge-requires g c = (
+  range 2 2 ∷ [],
+  range 0 2 ∷ [],
+  c.in_ok-sum.ensures (range 2 2 ∷ []) (c.in_ok-later.ensures.sum c.args.work.now c.requires),
+  c.in_ok-earlier.ensures.sum c.args.work.now ((c.in_ok-later.ensures.same c.args.work.now).0 c.requires),
+  apart,
+)
 
 pub returns : goal.returns
-returns c =
-    let serves : IsWorkOf c.in_ok-runner.runner c.args.work.now =
-    record {
-      system = ap (λ (s : Simulation). s.system) c.in_ok-runner.ensures ∙ c.requires.system;
-      seed = ap (λ (s : Simulation). s.seed) c.in_ok-runner.ensures ∙ c.requires.seed;
-    } in
+returns g c =
     c.in_ok-merge.ensures.both (range 2 2 ∷ []) (range 0 2 ∷ []) apart
-    (c.in_ok-sum.ensures (range 2 2 ∷ []) (c.in_ok-later.ensures.sum c.args.work.now serves))
-    (c.in_ok-earlier.ensures.sum c.args.work.now ((c.in_ok-later.ensures.same c.args.work.now).0 serves))
+    (c.in_ok-sum.ensures (range 2 2 ∷ []) (c.in_ok-later.ensures.sum c.args.work.now c.requires))
+    (c.in_ok-earlier.ensures.sum c.args.work.now ((c.in_ok-later.ensures.same c.args.work.now).0 c.requires))
