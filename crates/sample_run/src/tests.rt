@@ -3,6 +3,7 @@ ghost use Rattle.campaign_core.specs.Ranges.{range};
 ghost use Rattle.campaign_core.specs.Shares.{IsShare};
 ghost use Rattle.system_model.specs.System.{zone_count, interface_count};
 ghost use Rattle.sample_totals.specs.Estimates.{IsPrecision};
+ghost use Rattle.sample_run.specs.SampleWorks.{IsWorkOf};
 
 use crate::{Runner, SampleWork};
 use campaign_core::{Job, Share, Work};
@@ -634,11 +635,26 @@ fn are_enough<W: Work, J: Job<W> + Send>(
     Ok(work.enough(&sum))
 }
 
-// The totals of a system's first four samples.
-fn first_four(alloc: Global, system: &System) -> Result<Totals, OutOfMemory> {
-    let mut runner = Runner::new(alloc, system, 1)?;
-    let work = SampleWork::new(system, 1, None);
-    gathered(alloc, &work, &mut runner)
+// The totals of the first four samples.
+fn first_four<'a>(
+    alloc: Global,
+    work: &SampleWork<'a>,
+    runner: &mut Runner<'a>,
+) -> Result<Totals, OutOfMemory>
+    requires { IsWorkOf runner.old work.now }
+{
+    gathered(alloc, work, runner)
+}
+
+// Whether these are enough.
+fn four_are_enough<'a>(
+    alloc: Global,
+    work: &SampleWork<'a>,
+    runner: &mut Runner<'a>,
+) -> Result<bool, OutOfMemory>
+    requires { IsWorkOf runner.old work.now }
+{
+    are_enough(alloc, work, runner)
 }
 
 // Whether these are enough for a precision.
@@ -647,7 +663,7 @@ fn enough_at(alloc: Global, system: &System, precision: Option<u16>) -> Result<b
 {
     let mut runner = Runner::new(alloc, system, 1)?;
     let work = SampleWork::new(system, 1, precision);
-    are_enough(alloc, &work, &mut runner)
+    four_are_enough(alloc, &work, &mut runner)
 }
 
 // What may go to another thread, and be shared by threads.
@@ -673,7 +689,8 @@ fn shares_in_another_order_give_the_same_totals(rt: HostRuntime) -> Result<(), F
     let system = system_of(&rt, alloc, &plan)?;
     let work = SampleWork::new(&system, 1, None);
     assert_eq!(rt; work.empty(alloc)?.samples(), 0);
-    let sum = first_four(alloc, &system)?;
+    let mut runner = Runner::new(alloc, &system, 1)?;
+    let sum = first_four(alloc, &work, &mut runner)?;
     assert_eq!(rt; sum.samples(), 4);
     has_sums(&rt, &sum, [6, 4, 4, 90]);
     has_cuts(&rt, &sum, &[(1, 6, 90)]);
@@ -682,7 +699,7 @@ fn shares_in_another_order_give_the_same_totals(rt: HostRuntime) -> Result<(), F
     assert!(rt; enough_at(alloc, &system, Some(112))?);
     assert!(rt; !enough_at(alloc, &system, Some(111))?);
     assert!(rt; enough_at(alloc, &system, None)?);
-    may_be_sent(&Runner::new(alloc, &system, 1)?);
+    may_be_sent(&runner);
     may_be_sent(&work);
     may_be_sent(&sum);
     may_be_shared(&work);
