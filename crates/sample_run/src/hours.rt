@@ -6,6 +6,7 @@ ghost use Rattle.sample_run.specs.Run.{energies_after};
 
 use crate::network::set_hour;
 use crate::shapes::shape_of;
+use crate::up_sums::UpSums;
 use cut_certificate::Chain;
 use hour_dispatch::Dispatcher;
 use outage_chronology::Chronology;
@@ -23,6 +24,7 @@ use zone_network::Network;
 pub(crate) struct Hours<'a> {
     system: &'a System,
     chronology: Chronology<'a>,
+    sums: UpSums,
     storages: Storages<'a>,
     network: Network,
     dispatcher: Dispatcher,
@@ -44,7 +46,7 @@ impl<'a> Model for Hours<'a> {
       outcome = h.outcome;
     } };
 
-    ghost invariant = { λ h. IsKept h.system.now h.chronology h.storages h.network h.dispatcher h.outcome h.chain };
+    ghost invariant = { λ h. IsKept h.system.now h.chronology h.sums h.storages h.network h.dispatcher h.outcome h.chain };
 }
 
 impl<'a> Hours<'a> {
@@ -60,9 +62,13 @@ impl<'a> Hours<'a> {
         ensures seed { IfOk result (λ h. h.seed ≡ seed) }
     {
         let shape = shape_of(alloc, system)?;
+        let chronology = Chronology::new(alloc, system, seed)?;
+        let mut sums = UpSums::new(alloc, system)?;
+        sums.follow(system, &chronology);
         Ok(Hours {
             system,
-            chronology: Chronology::new(alloc, system, seed)?,
+            chronology,
+            sums,
             storages: Storages::new(alloc, system)?,
             network: Network::new(alloc, &shape)?,
             dispatcher: Dispatcher::new(alloc, &shape)?,
@@ -91,7 +97,9 @@ impl<'a> Hours<'a> {
           outcome = self.new.outcome;
         } }
     {
+        self.sums.return_all(self.system, &self.chronology);
         self.chronology.start(sample);
+        self.sums.follow(self.system, &self.chronology);
         self.storages.reset();
         self.work_out();
     }
@@ -111,6 +119,7 @@ impl<'a> Hours<'a> {
         } }
     {
         self.chronology.step();
+        self.sums.follow(self.system, &self.chronology);
         self.storages.carry();
         self.work_out();
     }
@@ -130,6 +139,7 @@ impl<'a> Hours<'a> {
             self.system,
             &self.chronology,
             &self.storages,
+            &self.sums,
         );
         self.outcome.hour = self.chronology.hour();
         self.dispatcher

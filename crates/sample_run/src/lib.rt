@@ -9,6 +9,7 @@ mod shapes;
 #[cfg(test)]
 mod tests;
 mod traces;
+mod up_sums;
 
 pub use runner::Runner;
 pub use traces::TraceError;
