@@ -72,7 +72,7 @@ turned-slots : (amounts amounts' : List ℕ) (slots : ℕ) (member : ℕ → Num
 turned-slots amounts amounts' slots member before after f n k place true size among below here_is others was now same is so_far i among_i =
     let gains : (m : ℕ) → sum_where (λ j. after j && member m j) f n ≡ sum_where (λ j. before j && member m j) f n + cond (member m k) (f k) 0 =
     λ m. sum-gains (λ j. before j && member m j) (λ j. after j && member m j) f n k (member m k) below (and_left (before k) (member m k) was)
-        (ap (λ (b : Bool). b && member m k) now) (λ j less apart. ap (λ (b : Bool). b && member m j) (same j less apart)) in
+    (ap (λ (b : Bool). b && member m k) now) (λ j less apart. ap (λ (b : Bool). b && member m j) (same j less apart)) in
     let value = get_or amounts place 0 + f k in
     elim (cases_eq i place) [
       | inl here ↦
@@ -89,7 +89,7 @@ turned-slots amounts amounts' slots member before after f n k place true size am
 turned-slots amounts amounts' slots member before after f n k place false size among below here_is others was now same is so_far i among_i =
     let loses : (m : ℕ) → sum_where (λ j. before j && member m j) f n ≡ sum_where (λ j. after j && member m j) f n + cond (member m k) (f k) 0 =
     λ m. sum-gains (λ j. after j && member m j) (λ j. before j && member m j) f n k (member m k) below (and_left (after k) (member m k) now)
-        (ap (λ (b : Bool). b && member m k) was) (λ j less apart. ap (λ (b : Bool). b && member m j) (sym (same j less apart))) in
+    (ap (λ (b : Bool). b && member m k) was) (λ j less apart. ap (λ (b : Bool). b && member m j) (sym (same j less apart))) in
     let value = get_or amounts place 0 - f k in
     elim (cases_eq i place) [
       | inl here ↦

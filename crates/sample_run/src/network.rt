@@ -78,7 +78,11 @@ fn limit(stated: u32, lines: u32, carried: u32) -> u32
     ensures { result ≡ (if lines == 0 then stated else min stated carried) }
 {
     // An interface without lines keeps its stated limit.
-    if lines == 0 { stated } else { stated.min(carried) }
+    if lines == 0 {
+        stated
+    } else {
+        stated.min(carried)
+    }
 }
 
 /// Sets what each device may discharge and charge.

@@ -17,7 +17,7 @@ is_up-requires c =
     let is = c.changed-component-items.ensures in
     let below : index < length (changed_at c.args.chronology.now) = omega (arith, ap length is, c.loop-component-test.true) in
     let ready = followed-ready c.args.system.now c.args.chronology.now c.loop-component.self (changed_at c.args.chronology.now) index component
-        below (ap (λ (xs : List ℕ). get_or xs index 0) is) c.loop-component.invariant in
+    below (ap (λ (xs : List ℕ). get_or xs index 0) is) c.loop-component.invariant in
     omega (arith, ready.among, ap component_count c.requires.system)
 
 pub turn-requires-clause-component : goal.turn-requires-clause-component
@@ -28,7 +28,7 @@ turn-requires-clause-component c =
     let is = c.changed-component-items.ensures in
     let below : index < length (changed_at c.args.chronology.now) = omega (arith, ap length is, c.loop-component-test.true) in
     (followed-ready c.args.system.now c.args.chronology.now c.loop-component.self (changed_at c.args.chronology.now) index component
-        below (ap (λ (xs : List ℕ). get_or xs index 0) is) c.loop-component.invariant).among
+    below (ap (λ (xs : List ℕ). get_or xs index 0) is) c.loop-component.invariant).among
 
 pub turn-requires-clause-turns : goal.turn-requires-clause-turns
 turn-requires-clause-turns c =
@@ -38,7 +38,7 @@ turn-requires-clause-turns c =
     let is = c.changed-component-items.ensures in
     let below : index < length (changed_at c.args.chronology.now) = omega (arith, ap length is, c.loop-component-test.true) in
     let ready = followed-ready c.args.system.now c.args.chronology.now c.loop-component.self (changed_at c.args.chronology.now) index component
-        below (ap (λ (xs : List ℕ). get_or xs index 0) is) c.loop-component.invariant in
+    below (ap (λ (xs : List ℕ). get_or xs index 0) is) c.loop-component.invariant in
     (up_until c.args.chronology.now component, ready.are, ready.turns ∙ ap not (sym c.is_up.ensures))
 
 pub loop-component-preserved : goal.loop-component-preserved
@@ -49,7 +49,7 @@ loop-component-preserved c =
     let is = c.changed-component-items.ensures in
     let below : index < length (changed_at c.args.chronology.now) = omega (arith, ap length is, c.loop-component-test.true) in
     let ready = followed-ready c.args.system.now c.args.chronology.now c.loop-component.self (changed_at c.args.chronology.now) index component
-        below (ap (λ (xs : List ℕ). get_or xs index 0) is) c.loop-component.invariant in
+    below (ap (λ (xs : List ℕ). get_or xs index 0) is) c.loop-component.invariant in
     followed-more c.args.system.now c.args.chronology.now c.loop-component.self c.turn.new.self (changed_at c.args.chronology.now) index component c.is_up.result c.is_up.ensures ready
     (c.turn.ensures (up_until c.args.chronology.now component) ready.are (ready.turns ∙ ap not (sym c.is_up.ensures)))
 
