@@ -6,3 +6,6 @@ pub mod RunSteps
 pub mod Laws
 pub mod TraceSteps
 pub mod TraceRuns
+pub mod FoundSteps
+pub mod WorkLaws
+pub mod RangeSteps

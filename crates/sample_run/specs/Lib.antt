@@ -6,3 +6,6 @@ pub mod Ready
 pub mod Keeps
 pub mod WorkedRows
 pub mod Trace
+pub mod Found
+pub mod SampleWorks
+pub mod SameSamples

@@ -1,5 +1,5 @@
 ghost use Rattle.std.specs.Prelude.{◌≡◌, ℕ, ◌+◌, ◌<◌, IfOk, length, slice_index};
-ghost use Rattle.system_model.specs.System.{IsValid, storage_count, hour_count};
+ghost use Rattle.system_model.specs.System.{IsValid, zone_count, storage_count, hour_count};
 ghost use Rattle.storage_state.specs.Holdings.{IsWithinCaps, start_energies, carried_energies};
 ghost use Rattle.sample_run.specs.HourNetwork.{shape_of};
 ghost use Rattle.sample_run.specs.Run.{energies_after};
@@ -148,6 +148,13 @@ impl<'a> Hours<'a> {
         ensures { result.now ≡ self.now.outcome }
     {
         &self.outcome
+    }
+
+    /// How many zones the system has.
+    pub fn zones(&self) -> u8
+        ensures { result ≡ zone_count self.now.system }
+    {
+        self.system.zones()
     }
 }
 

@@ -4,11 +4,14 @@
 
 mod hours;
 mod network;
+mod ranges;
 mod runner;
 mod shapes;
 #[cfg(test)]
 mod tests;
 mod traces;
+mod work;
 
 pub use runner::Runner;
 pub use traces::TraceError;
+pub use work::SampleWork;

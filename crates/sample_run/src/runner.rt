@@ -90,4 +90,11 @@ impl<'a> Runner<'a> {
         }
         Ok(())
     }
+
+    /// How many zones the system has.
+    pub(crate) fn zones(&self) -> u8
+        ensures { result ≡ zone_count self.now.system }
+    {
+        self.hours.zones()
+    }
 }
