@@ -1,0 +1,186 @@
+ghost use Rattle.std.specs.Prelude.{◌≡◌, ◌≤◌, ◌<◌, All, IfOk, length};
+ghost use Rattle.ra_base.specs.declared.limits.TheConstants.{MOST_SAMPLES, MOST_BLOCK};
+ghost use Rattle.campaign_core.specs.Ranges.{AreSame, is_in};
+
+use crate::{WorkEnd, Worked, study, work};
+use campaign::Campaign;
+use campaign_core::{Done, Job, SampleRange, Share, Work};
+use ra_base::{NoPause, OutOfMemory};
+use std::alloc::Global;
+use std::process::Abort;
+use std::sync::Wait;
+use std::test::Fail;
+use std::thread::Threads;
+
+// A work whose sum is the list of its ranges, which are enough where a sample is among them.
+#[derive(Drop)]
+struct Listing {
+    wanted: u32,
+}
+
+impl Work for Listing {
+    ghost use Rattle.std.proofs.Common.{◌∙◌, ap, sym};
+    ghost use Rattle.std.specs.Prelude.{nat_lt};
+    ghost use Rattle.campaign_core.specs.Ranges.{AreSame, is_in};
+    ghost use Rattle.campaign_core.proofs.Totals.{times_same};
+    ghost use Rattle.campaign_core.proofs.RunLaws.{in_times};
+
+    type Sum = Vec<SampleRange>;
+
+    ghost stands = { λ work sum ranges. AreSame sum.items ranges };
+
+    ghost is_enough = { λ work ranges. is_in ranges work.wanted };
+
+    fn empty(&self, alloc: Global) -> Result<Vec<SampleRange>, OutOfMemory> {
+        Ok(Vec::new(alloc))
+    }
+
+    fn merge(
+        &self,
+        into: &mut Vec<SampleRange>,
+        more: &Vec<SampleRange>,
+    ) -> Result<(), OutOfMemory> {
+        into.extend_from_slice(more.as_slice())?;
+        Ok(())
+    }
+
+    fn copy(&self, alloc: Global, sum: &Vec<SampleRange>) -> Result<Vec<SampleRange>, OutOfMemory> {
+        let mut copy = Vec::new(alloc);
+        copy.extend_from_slice(sum.as_slice())?;
+        Ok(copy)
+    }
+
+    fn enough(&self, sum: &Vec<SampleRange>) -> bool {
+        for range in sum.as_slice() {
+            if range.first <= self.wanted && self.wanted - range.first < range.count {
+                return true;
+            }
+        }
+        false
+    }
+
+    ghost stands_by_samples = { λ work sum xs ys same s weight. s weight ∙ same weight };
+
+    ghost enough_by_samples = { λ work xs ys same. in_times work.wanted xs
+        ∙ (ap (nat_lt 0) (times_same xs ys same work.wanted) ∙ sym (in_times work.wanted ys)) };
+}
+
+// A job that lists the range of its share, where it finds memory.
+#[derive(Drop)]
+struct Lister {
+    finds: bool,
+}
+
+impl Job<Listing> for Lister {
+    ghost use Rattle.std.specs.Prelude.{⊤};
+
+    ghost serves = { λ job work. ⊤ };
+
+    fn run(&mut self, alloc: Global, share: Share) -> Result<Done<Listing>, (Share, OutOfMemory)> {
+        let range = SampleRange {
+            first: share.first(),
+            count: share.count(),
+        };
+        let mut list = Vec::new(alloc);
+        if !self.finds || list.push(range).is_err() {
+            return Err((share, OutOfMemory));
+        }
+        Ok(Done::of(share, list))
+    }
+}
+
+// The ranges of a study with so many workers, in order.
+fn studied<R: Threads + Wait + Sync>(
+    rt: &R,
+    alloc: Global,
+    workers: usize,
+    wanted: u32,
+    samples: u32,
+    most: u32,
+) -> Result<Vec<SampleRange>, Fail>
+    requires workers { (1 ≤ workers) × (workers ≤ 64) }
+    requires samples { (1 ≤ samples) × (samples ≤ most) × (most ≤ MOST_SAMPLES) }
+{
+    let mut jobs = Vec::new(alloc);
+    for _ in 0..workers {
+        jobs.push(Lister { finds: true })?;
+    }
+    let mut ranges = study(
+        rt,
+        alloc,
+        Listing { wanted },
+        jobs,
+        samples,
+        3,
+        most,
+        &NoPause,
+    )?;
+    ranges.sort_unstable_by_key(|range| range.first);
+    Ok(ranges)
+}
+
+// The ranges of a study, as text.
+fn check(
+    rt: &impl Abort,
+    alloc: Global,
+    ranges: Vec<SampleRange>,
+    expected: &[(u32, u32)],
+) -> Result<(), Fail> {
+    assert_eq!(rt; ranges.len(), expected.len());
+    for (range, wanted) in ranges.as_slice().iter().zip(expected) {
+        assert_eq!(rt; range.first, wanted.0);
+        assert_eq!(rt; range.count, wanted.1);
+    }
+    Ok(())
+}
+
+#[test]
+fn studies_end_at_the_first_round_that_is_enough(rt: HostRuntime) -> Result<(), Fail> {
+    let alloc = rt.alloc();
+    let two_rounds = [(0, 3), (3, 1), (4, 3), (7, 1)];
+    check(&rt, alloc, studied(&rt, alloc, 2, 6, 4, 100)?, &two_rounds)?;
+    check(&rt, alloc, studied(&rt, alloc, 1, 6, 4, 100)?, &two_rounds)?;
+    let most = [(0, 3), (3, 1), (4, 2)];
+    check(&rt, alloc, studied(&rt, alloc, 2, 60, 4, 6)?, &most)?;
+    let one_round = [(0, 3), (3, 1)];
+    check(&rt, alloc, studied(&rt, alloc, 3, 3, 4, 4)?, &one_round)
+}
+
+#[test]
+fn workers_end_by_their_last_claim(rt: HostRuntime) -> Result<(), Fail> {
+    let alloc = rt.alloc();
+    let Ok((campaign, pass)) = Campaign::open(alloc, Listing { wanted: 0 }, 5, 2) else {
+        panic!(rt; "no memory")
+    };
+    let mut job = Lister { finds: true };
+    let Worked { mut pass, end } = work(&rt, alloc, &campaign, pass, &mut job, &NoPause, false);
+    assert!(rt; end == WorkEnd::Idle);
+    campaign.seal(&mut pass);
+    let Worked { mut pass, end } = work(&rt, alloc, &campaign, pass, &mut job, &NoPause, true);
+    assert!(rt; end == WorkEnd::Drained);
+    campaign.cancel(&mut pass);
+    let Worked { pass, end } = work(&rt, alloc, &campaign, pass, &mut job, &NoPause, true);
+    assert!(rt; end == WorkEnd::Cancelled);
+    let Ok(end) = campaign.finish(pass) else {
+        panic!(rt; "not finished")
+    };
+    assert_eq!(rt;
+        format!(in alloc; "{:?}", end.runs)?.as_str(),
+        "Runs { list: [Run { first: 0, last: 4 }] }"
+    );
+    check(&rt, alloc, end.sum, &[(0, 2), (2, 2), (4, 1)])
+}
+
+#[test]
+fn a_worker_without_memory_cancels(rt: HostRuntime) -> Result<(), Fail> {
+    let alloc = rt.alloc();
+    let Ok((campaign, pass)) = Campaign::open(alloc, Listing { wanted: 0 }, 5, 2) else {
+        panic!(rt; "no memory")
+    };
+    let mut job = Lister { finds: false };
+    let Worked { mut pass, end } = work(&rt, alloc, &campaign, pass, &mut job, &NoPause, true);
+    assert!(rt; end.is_short());
+    let gate = campaign.progress(&mut pass);
+    assert!(rt; gate.cancelled && gate.next == 2);
+    Ok(())
+}
