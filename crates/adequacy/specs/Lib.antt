@@ -9,7 +9,6 @@ pub mod OptionTable
 pub mod OptionWords
 pub mod Parse
 pub mod Requests
-pub mod Rounds
 pub mod StudyText
 pub mod Traces
 pub mod WordFaultText

@@ -5,7 +5,8 @@ use Rattle.sample_totals.specs.declared.outcomes.HourOutcome.{HourOutcome}
 use Rattle.sample_totals.specs.Estimates.{is_enough}
 use Rattle.sample_totals.specs.Totals.{Sheet, totals_of}
 use Rattle.sample_run.specs.Run.{IsOnlyRun, IsLeast}
-use Rattle.adequacy.specs.Rounds.{IsStudyEnd}
+use Rattle.sample_run.specs.SampleWorks.{WorkTerms}
+use Rattle.campaign_workers.specs.Rounds.{IsStudyEnd}
 use Rattle.report_text.specs.TotalsText.{totals_text}
 use Rattle.adequacy.specs.declared.words.request.StudyTerms.{StudyTerms}
 
@@ -18,6 +19,10 @@ are_enough zones precision runs count = is_enough (totals_of zones (take count r
 pub record AreRuns (system : SystemParts) (seed : ℕ) (runs : List (List HourOutcome)) : Type 0 where
   pub only : (sample : ℕ) → sample < length runs → IsOnlyRun system seed sample (slice_index_or runs sample [])
   pub least : (sample : ℕ) → sample < length runs → IsLeast system seed sample (slice_index_or runs sample [])
+
+-- the work over the samples of a study
+abbrev pub work_of : SystemParts → StudyTerms → WorkTerms
+work_of system terms = record { system = system; seed = terms.seed; precision = terms.precision }
 
 -- these are the totals over the runs of the samples 0, 1, .. up to where the study ends
 pub record HasStudied (system : SystemParts) (terms : StudyTerms) (sheet : Sheet) : Type 0 where

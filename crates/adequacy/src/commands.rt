@@ -10,7 +10,6 @@ ghost use Rattle.sample_totals.specs.Recorders.{Seen};
 ghost use Rattle.adequacy.specs.LineParts.{LineParts};
 ghost use Rattle.adequacy.specs.Requests.{IsRequestOf};
 
-use crate::studies::make_study_text;
 use crate::words::{Command, CreditTerms, Request};
 use analytic_index::Analysis;
 use capacity_credit::{Steps, credit};
@@ -39,8 +38,9 @@ pub(crate) fn make_answer(
         Request::Table => make_table_text(alloc, system),
         Request::Index => make_index_text(alloc, system),
         Request::Credit(terms) => { make_credit_text::<Brand>(alloc, Blank::new(1), system, terms) }
-        Request::Study(terms) => make_study_text(alloc, system, terms),
-        Request::Trace(_) | Request::Trial { .. } | Request::Console(_) => unreachable!(),
+        Request::Trace(_) | Request::Study(_) | Request::Trial { .. } | Request::Console(_) => {
+            unreachable!()
+        }
     }
 }
 

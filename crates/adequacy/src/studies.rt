@@ -1,59 +1,77 @@
-//! The answer to a study: its samples are simulated in order, and the text of their totals is written.
-ghost use Rattle.std.specs.Prelude.{◌≡◌, ◌≤◌, ◌<◌, IfOk, IfSome};
-ghost use Rattle.ra_base.specs.declared.limits.TheConstants.{MOST_SAMPLES};
-ghost use Rattle.sample_totals.specs.Estimates.{is_enough as enough_samples, IsPrecision};
-ghost use Rattle.adequacy.specs.StudyText.{IsStudyText, HasStudied};
+//! The answer to a study: its samples are simulated by workers, and the text of their totals is written.
+ghost use Rattle.std.specs.Prelude.{◌≡◌, All, IfOk, length};
+ghost use Rattle.adequacy.specs.LineParts.{LineParts};
+ghost use Rattle.adequacy.specs.Requests.{AreStudyTerms};
+ghost use Rattle.adequacy.specs.StudyText.{IsStudyText, HasStudied, work_of};
+ghost use Rattle.sample_run.specs.SampleWorks.{IsWorkOf};
 
 use crate::words::StudyTerms;
-use ra_base::{OutOfMemory, Text};
+use campaign_workers::study;
+use ra_base::{OutOfMemory, Pause, Text};
 use report_text::put_totals;
-use sample_run::Runner;
-use sample_totals::{Part, Totals, enough};
+use sample_run::{Runner, SampleWork};
+use sample_totals::Totals;
 use std::alloc::Global;
+use std::sync::Wait;
+use std::thread::Threads;
 use system_model::System;
 
 /// The text of the totals over a study's samples: so many first, and as many more again and again until
-/// they are enough or the most.
-pub(crate) fn make_study_text(
+/// they are enough or the most. It may wait for its workers.
+pub(crate) fn make_study_text<T: Threads + Wait + Sync, P: Pause + Sync>(
+    rt: &T,
     alloc: Global,
     system: &System,
     terms: StudyTerms,
+    pause: &P,
 ) -> Result<Text, OutOfMemory>
-    requires some { 1 ≤ terms.samples }
-    requires enough { terms.samples ≤ terms.most }
-    requires most { terms.most ≤ MOST_SAMPLES }
-    requires precision { IfSome terms.precision IsPrecision }
+    requires terms { (line : LineParts) × AreStudyTerms line terms }
     ensures { IfOk result (IsStudyText system.now terms) }
 {
-    let totals = study_totals(alloc, system, terms)?;
+    let totals = study_totals(rt, alloc, system, terms, pause)?;
     let mut text = Text::new(alloc);
     put_totals(&mut text, system, &totals)?;
     Ok(text)
 }
 
-// The totals over a study's samples.
-fn study_totals(alloc: Global, system: &System, terms: StudyTerms) -> Result<Totals, OutOfMemory>
-    requires some { 1 ≤ terms.samples }
-    requires most { terms.most ≤ MOST_SAMPLES }
-    requires precision { IfSome terms.precision IsPrecision }
+// The totals over a study's samples, simulated by so many workers.
+fn study_totals<T: Threads + Wait + Sync, P: Pause + Sync>(
+    rt: &T,
+    alloc: Global,
+    system: &System,
+    terms: StudyTerms,
+    pause: &P,
+) -> Result<Totals, OutOfMemory>
+    requires terms { (line : LineParts) × AreStudyTerms line terms }
     ensures { IfOk result (HasStudied system.now terms) }
 {
-    let mut runner = Runner::new(alloc, system, terms.seed)?;
-    let mut totals = Totals::new(alloc, system.zones())?;
-    for sample in 0..terms.most {
-        totals.add(runner.run(sample))?;
-        if (sample + 1) % terms.samples == 0 && is_enough(&totals, terms.precision) {
-            return Ok(totals);
-        }
-    }
-    Ok(totals)
+    let runners = make_runners(alloc, system, terms)?;
+    let work = SampleWork::new(system, terms.seed, terms.precision);
+    study(
+        rt,
+        alloc,
+        work,
+        runners,
+        terms.samples,
+        terms.block,
+        terms.most,
+        pause,
+    )
 }
 
-// Whether the samples of these totals are enough for a precision, by their unserved energy.
-fn is_enough(totals: &Totals, precision: Option<u16>) -> bool
-    requires some { 0 < totals.now.samples }
-    requires precision { IfSome precision IsPrecision }
-    ensures { result ≡ enough_samples totals.now.unserved totals.now.samples precision }
+// A runner for each worker, which serves the study's work.
+fn make_runners<'a>(
+    alloc: Global,
+    system: &'a System,
+    terms: StudyTerms,
+) -> Result<Vec<Runner<'a>>, OutOfMemory>
+    ensures many { IfOk result (λ runners. length runners.items ≡ terms.workers) }
+    ensures serve { IfOk result (λ runners.
+        All (λ runner. IsWorkOf runner (work_of system.now terms)) runners.items) }
 {
-    enough(totals.part(Part::Unserved), totals.samples(), precision)
+    let mut runners = Vec::new(alloc);
+    for _ in 0..terms.workers {
+        runners.push(Runner::new(alloc, system, terms.seed)?)?;
+    }
+    Ok(runners)
 }

@@ -4,4 +4,4 @@ use Rattle.sample_totals.proofs.Laws.{law_zones}
 use Rattle.adequacy.proofs.studies.make_study_text.Goals as goal
 
 pub put_totals-requires : goal.put_totals-requires
-put_totals-requires c = record { zones = ap (λ (s : Sheet). length s.zones) c.in_ok-totals.ensures.is ∙ law_zones _ _ }
+put_totals-requires g c = record { zones = ap (λ (s : Sheet). length s.zones) c.in_ok-totals.ensures.is ∙ law_zones _ _ }
