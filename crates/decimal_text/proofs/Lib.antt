@@ -11,3 +11,4 @@ pub mod Caps
 pub mod Cuts
 pub mod TenPowers
 pub mod Appends
+pub mod Growing

@@ -44,7 +44,7 @@ fn put_head(out: &mut Text, analysis: &Analysis) -> Result<(), OutOfMemory>
     out.push(b"\n")
 }
 
-#[tactic(auto, using(crate::proofs::TextLemmas::text_steps))]
+#[tactic(auto, using(decimal_text::proofs::Growing::text_steps))]
 fn put_hours(out: &mut Text, analysis: &Analysis) -> Result<(), OutOfMemory>
     ensures { OnOk result (out.new ≡ out.old ++
         flat_map (hour_text analysis.now) (range_with_len 0 (length analysis.now.hours))) }

@@ -30,7 +30,7 @@ pub fn put_table(out: &mut Text, table: &OutageTable) -> Result<(), OutOfMemory>
     out.push(text.bytes())
 }
 
-#[tactic(auto, using(crate::proofs::TextLemmas::text_steps))]
+#[tactic(auto, using(decimal_text::proofs::Growing::text_steps))]
 fn put_outages(out: &mut Text, table: &OutageTable) -> Result<(), OutOfMemory>
     ensures { OnOk result (out.new ≡ out.old ++
         flat_map (outage_text table.now) (range_with_len 0 (total_capacity table.now + 1))) }

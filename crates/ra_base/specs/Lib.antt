@@ -1,4 +1,6 @@
 pub mod Causes
+pub mod ConsoleLines
+pub mod MemoryConsole
 pub mod MemoryShelf
 pub mod MemorySink
 pub mod Noted

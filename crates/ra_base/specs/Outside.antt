@@ -1,5 +1,5 @@
 -- What a shelf of tables and a sink of bytes answer.
-use Rattle.std.specs.Prelude.{◌≡◌, ◌≤◌, ◌<◌, ℕ, List, Bool, true, false, Option, Some, None, Result, Ok, Err, length}
+use Rattle.std.specs.Prelude.{◌≡◌, ◌≤◌, ◌<◌, ℕ, List, Option, Some, None, Result, Ok, Err, length}
 use Rattle.ra_base.specs.Causes.{Gained, GainedPart}
 use Rattle.ra_base.specs.declared.limits.TheConstants.{MOST_TABLE_BYTES}
 use Rattle.ra_base.specs.declared.table.TableName.{TableName}

@@ -3,8 +3,11 @@
 #![tactic(auto)]
 
 mod amounts;
+mod console;
 pub mod limits;
+mod line_log;
 mod memory;
+mod memory_console;
 mod memory_shelf;
 mod memory_sink;
 mod pause;
@@ -17,7 +20,10 @@ mod table;
 mod text;
 
 pub use amounts::Amounts;
+pub use console::{Console, ConsoleError};
+pub use line_log::{LineLog, LineNote};
 pub use memory::OutOfMemory;
+pub use memory_console::MemoryConsole;
 pub use memory_shelf::MemoryShelf;
 pub use memory_sink::MemorySink;
 pub use pause::{NoPause, Pause};

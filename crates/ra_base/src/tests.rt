@@ -101,3 +101,29 @@ fn sink_in_memory(rt: HostRuntime) -> Result<(), Fail> {
     }
     Ok(())
 }
+
+// Lines come in their order, the empty one too; a failed call takes none, and behind the last line there is none.
+#[test]
+fn console_in_memory(rt: HostRuntime) -> Result<(), Fail> {
+    let alloc = rt.alloc();
+    let mut console = MemoryConsole::new(alloc);
+    console.push(b"report")?;
+    console.push(b"")?;
+    console.push(b"extend 4")?;
+    console.fail(2)?;
+    let wanted = [
+        Ok(Some(6)),
+        Err(ConsoleError::Fault),
+        Ok(Some(0)),
+        Ok(Some(8)),
+        Ok(None),
+        Ok(None),
+    ];
+    for (at, length) in wanted.iter().enumerate() {
+        let answer = console
+            .line(alloc)
+            .map(|line| line.map(|text| text.bytes().len()));
+        assert_eq!(rt; answer, *length, "call {at}");
+    }
+    Ok(())
+}

@@ -114,7 +114,7 @@ fn put_cause(out: &mut Text, cause: Cause) -> Result<(), OutOfMemory>
 }
 
 // Why a field is no number of its kind.
-#[tactic(auto, using(crate::proofs::TextLemmas::text_steps))]
+#[tactic(auto, using(decimal_text::proofs::Growing::text_steps))]
 fn put_number_fault(out: &mut Text, fault: NumberFault) -> Result<(), OutOfMemory>
     ensures { OnOk result (out.new ≡ out.old ++ number_fault_text fault) }
 {

@@ -78,7 +78,7 @@ fn put_ranges(out: &mut Text, runs: &Runs) -> Result<(), OutOfMemory>
 }
 
 // Each run, with a space in front.
-#[tactic(auto, using(crate::proofs::TextLemmas::text_steps))]
+#[tactic(auto, using(decimal_text::proofs::Growing::text_steps))]
 fn put_runs(out: &mut Text, runs: &Runs) -> Result<(), OutOfMemory>
     ensures { OnOk result (out.new ≡ out.old ++ flat_map run_text runs.now) }
 {

@@ -52,7 +52,7 @@ fn put_sum_lines(out: &mut Text, system: &System, totals: &Totals) -> Result<(),
     put_cuts(out, system, totals.cuts())
 }
 
-#[tactic(auto, using(crate::proofs::TextLemmas::text_steps))]
+#[tactic(auto, using(decimal_text::proofs::Growing::text_steps))]
 fn put_zones(out: &mut Text, system: &System, totals: &Totals) -> Result<(), OutOfMemory>
     requires zones { length totals.now.zones ≡ zone_count system.now }
     requires some { 0 < totals.now.samples }
@@ -77,7 +77,7 @@ fn put_zone(out: &mut Text, system: &System, totals: &Totals, zone: u8) -> Resul
     put_sums(out, totals.zone(zone), totals.samples())
 }
 
-#[tactic(auto, using(crate::proofs::TextLemmas::text_steps))]
+#[tactic(auto, using(decimal_text::proofs::Growing::text_steps))]
 fn put_cuts(out: &mut Text, system: &System, cuts: &[CutRow]) -> Result<(), OutOfMemory>
     ensures { OnOk result (out.new ≡ out.old ++ flat_map (cut_line system.now.zone_names) cuts.now) }
 {

@@ -3,7 +3,7 @@ use Rattle.fixed_interval.specs.Rounding.{floor_div, ceil_div}
 use Rattle.load_model.specs.Need.{need_of, no_net_hour}
 use Rattle.outage_table.specs.Grid.{unserved_grid}
 use Rattle.analytic_index.specs.Index.{lolp_end}
-use Rattle.index_text.proofs.TextLemmas.{lole_of_one, eue_of_one}
+use Rattle.index_text.proofs.HourIndexLemmas.{lole_of_one, eue_of_one}
 use Rattle.index_text.proofs.index.put_hour.Goals as goal
 
 pub returns : goal.returns

@@ -3,7 +3,7 @@ use Rattle.std.specs.List.{flat_map}
 use Rattle.std.proofs.lemmas.List.{take_more}
 use Rattle.std.proofs.lemmas.Option.{get_or_from_slice_get}
 use Rattle.report_text.specs.GateText.{run_text}
-use Rattle.report_text.proofs.TextLemmas.{flat_map-more}
+use Rattle.decimal_text.proofs.Growing.{flat_map-more}
 use Rattle.report_text.proofs.gates.put_runs.Goals as goal
 
 pub loop-at-preserved : goal.loop-at-preserved
