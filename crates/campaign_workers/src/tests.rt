@@ -1,6 +1,5 @@
 ghost use Rattle.std.specs.Prelude.{◌≡◌, ◌≤◌, ◌<◌, All, IfOk, length};
 ghost use Rattle.ra_base.specs.declared.limits.TheConstants.{MOST_SAMPLES, MOST_BLOCK};
-ghost use Rattle.campaign_core.specs.Ranges.{AreSame, is_in};
 
 use crate::{WorkEnd, Worked, study, work};
 use campaign::Campaign;
@@ -12,57 +11,61 @@ use std::sync::Wait;
 use std::test::Fail;
 use std::thread::Threads;
 
-// A work whose sum is the list of its ranges, which are enough where a sample is among them.
+// A work whose sum is the list of its ranges, of which so many samples are enough.
 #[derive(Drop)]
 struct Listing {
     wanted: u32,
 }
 
+// Ranges, and how many samples they have.
+#[derive(Drop)]
+struct Listed {
+    ranges: Vec<SampleRange>,
+    count: u32,
+}
+
 impl Work for Listing {
-    ghost use Rattle.std.proofs.Common.{◌∙◌, ap, sym};
-    ghost use Rattle.std.specs.Prelude.{nat_lt};
-    ghost use Rattle.campaign_core.specs.Ranges.{AreSame, is_in};
-    ghost use Rattle.campaign_core.proofs.Totals.{times_same};
-    ghost use Rattle.campaign_core.proofs.RunLaws.{in_times};
+    ghost use Rattle.std.specs.Prelude.{◌≡◌, nat_le};
+    ghost use Rattle.std.proofs.Common.{◌∙◌, ap};
+    ghost use Rattle.campaign_core.specs.Ranges.{total, AreSame};
 
-    type Sum = Vec<SampleRange>;
+    type Sum = Listed;
 
-    ghost stands = { λ work sum ranges. AreSame sum.items ranges };
+    ghost stands = { λ work sum ranges. AreSame sum.ranges.items ranges
+        × (sum.count ≡ total (λ sample. 1) ranges) };
 
-    ghost is_enough = { λ work ranges. is_in ranges work.wanted };
+    ghost is_enough = { λ work ranges. nat_le work.wanted (total (λ sample. 1) ranges) };
 
-    fn empty(&self, alloc: Global) -> Result<Vec<SampleRange>, OutOfMemory> {
-        Ok(Vec::new(alloc))
+    fn empty(&self, alloc: Global) -> Result<Listed, OutOfMemory> {
+        Ok(Listed {
+            ranges: Vec::new(alloc),
+            count: 0,
+        })
     }
 
-    fn merge(
-        &self,
-        into: &mut Vec<SampleRange>,
-        more: &Vec<SampleRange>,
-    ) -> Result<(), OutOfMemory> {
-        into.extend_from_slice(more.as_slice())?;
+    fn merge(&self, into: &mut Listed, more: &Listed) -> Result<(), OutOfMemory> {
+        into.ranges.extend_from_slice(more.ranges.as_slice())?;
+        into.count += more.count;
         Ok(())
     }
 
-    fn copy(&self, alloc: Global, sum: &Vec<SampleRange>) -> Result<Vec<SampleRange>, OutOfMemory> {
-        let mut copy = Vec::new(alloc);
-        copy.extend_from_slice(sum.as_slice())?;
-        Ok(copy)
+    fn copy(&self, alloc: Global, sum: &Listed) -> Result<Listed, OutOfMemory> {
+        let mut ranges = Vec::new(alloc);
+        ranges.extend_from_slice(sum.ranges.as_slice())?;
+        Ok(Listed {
+            ranges,
+            count: sum.count,
+        })
     }
 
-    fn enough(&self, sum: &Vec<SampleRange>) -> bool {
-        for range in sum.as_slice() {
-            if range.first <= self.wanted && self.wanted - range.first < range.count {
-                return true;
-            }
-        }
-        false
+    fn enough(&self, sum: &Listed) -> bool {
+        sum.count >= self.wanted
     }
 
-    ghost stands_by_samples = { λ work sum xs ys same s weight. s weight ∙ same weight };
+    ghost stands_by_samples = { λ work sum xs ys same s.
+        (λ weight. s.0 weight ∙ same weight, s.1 ∙ same (λ sample. 1)) };
 
-    ghost enough_by_samples = { λ work xs ys same. in_times work.wanted xs
-        ∙ (ap (nat_lt 0) (times_same xs ys same work.wanted) ∙ sym (in_times work.wanted ys)) };
+    ghost enough_by_samples = { λ work xs ys same. ap (λ n. nat_le work.wanted n) (same (λ sample. 1)) };
 }
 
 // A job that lists the range of its share, where it finds memory.
@@ -77,15 +80,19 @@ impl Job<Listing> for Lister {
     ghost serves = { λ job work. ⊤ };
 
     fn run(&mut self, alloc: Global, share: Share) -> Result<Done<Listing>, (Share, OutOfMemory)> {
-        let range = SampleRange {
-            first: share.first(),
-            count: share.count(),
-        };
-        let mut list = Vec::new(alloc);
-        if !self.finds || list.push(range).is_err() {
+        if !self.finds {
             return Err((share, OutOfMemory));
         }
-        Ok(Done::of(share, list))
+        let count = share.count();
+        let range = SampleRange {
+            first: share.first(),
+            count,
+        };
+        let mut ranges = Vec::new(alloc);
+        let Ok(()) = ranges.push(range) else {
+            return Err((share, OutOfMemory));
+        };
+        Ok(Done::of(share, Listed { ranges, count }))
     }
 }
 
@@ -105,7 +112,7 @@ fn studied<R: Threads + Wait + Sync>(
     for _ in 0..workers {
         jobs.push(Lister { finds: true })?;
     }
-    let mut ranges = study(
+    let sum = study(
         rt,
         alloc,
         Listing { wanted },
@@ -115,6 +122,10 @@ fn studied<R: Threads + Wait + Sync>(
         most,
         &NoPause,
     )?;
+    let Listed {
+        mut ranges,
+        count: _,
+    } = sum;
     ranges.sort_unstable_by_key(|range| range.first);
     Ok(ranges)
 }
@@ -138,12 +149,12 @@ fn check(
 fn studies_end_at_the_first_round_that_is_enough(rt: HostRuntime) -> Result<(), Fail> {
     let alloc = rt.alloc();
     let two_rounds = [(0, 3), (3, 1), (4, 3), (7, 1)];
-    check(&rt, alloc, studied(&rt, alloc, 2, 6, 4, 100)?, &two_rounds)?;
-    check(&rt, alloc, studied(&rt, alloc, 1, 6, 4, 100)?, &two_rounds)?;
+    check(&rt, alloc, studied(&rt, alloc, 2, 7, 4, 100)?, &two_rounds)?;
+    check(&rt, alloc, studied(&rt, alloc, 1, 7, 4, 100)?, &two_rounds)?;
     let most = [(0, 3), (3, 1), (4, 2)];
     check(&rt, alloc, studied(&rt, alloc, 2, 60, 4, 6)?, &most)?;
     let one_round = [(0, 3), (3, 1)];
-    check(&rt, alloc, studied(&rt, alloc, 3, 3, 4, 4)?, &one_round)
+    check(&rt, alloc, studied(&rt, alloc, 3, 4, 4, 4)?, &one_round)
 }
 
 #[test]
@@ -168,7 +179,7 @@ fn workers_end_by_their_last_claim(rt: HostRuntime) -> Result<(), Fail> {
         format!(in alloc; "{:?}", end.runs)?.as_str(),
         "Runs { list: [Run { first: 0, last: 4 }] }"
     );
-    check(&rt, alloc, end.sum, &[(0, 2), (2, 2), (4, 1)])
+    check(&rt, alloc, end.sum.ranges, &[(0, 2), (2, 2), (4, 1)])
 }
 
 #[test]

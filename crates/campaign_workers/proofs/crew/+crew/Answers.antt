@@ -23,13 +23,25 @@ join-other-requires-after_bounds g t c κs within =
       ),
       (
         search rules,
-        (λ a m. m,
-        (λ a m. m,
-        (λ a m. m,
-        (λ a m. m,
-        (λ a m. m,
-        ((search rules, search rules, search rules, c.split_pass-mine.ensures.pass, number, omega (arith, room, fewer, c.requires.room), jobs.0),
-        (search rules, search rules, search rules, search rules, search rules, search rules))))))),
+        (
+          λ a m. m,
+          (
+            λ a m. m,
+            (
+              λ a m. m,
+              (
+                λ a m. m,
+                (
+                  λ a m. m,
+                  (
+                    (search rules, search rules, search rules, c.split_pass-mine.ensures.pass, number, omega (arith, room, fewer, c.requires.room), jobs.0),
+                    (search rules, search rules, search rules, search rules, search rules, search rules),
+                  ),
+                ),
+              ),
+            ),
+          ),
+        ),
       ),
     )
 
