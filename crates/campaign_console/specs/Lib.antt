@@ -1,0 +1,3 @@
+pub mod LineCalls
+pub mod LineTexts
+pub mod LineEnds
