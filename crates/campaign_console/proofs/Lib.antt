@@ -1,2 +1,5 @@
 pub mod AddLaws
 pub mod LineLaws
+pub mod CallLaws
+pub mod TogetherLaws
+pub mod EndLaws

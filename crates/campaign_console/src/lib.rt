@@ -3,7 +3,13 @@
 #![tactic(auto)]
 
 mod answers;
+mod consoles;
 mod lines;
 mod requests;
+mod together;
 
+pub use answers::Answer;
+pub use consoles::{ConsoleDone, ConsoleEnd, console};
 pub use lines::LinesEnd;
+pub use requests::Request;
+pub use together::Ran;
