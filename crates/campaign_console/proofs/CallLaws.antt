@@ -96,7 +96,7 @@ pub answered_asks : (work : WorkTerms) (lines : List (List ℕ)) (es : List Entr
     → AreAsks es × (have_cancel es ≡ list_any asks_cancel lines)
 answered_asks work [] es text is = (asks_is es [] is.0 tt, ap have_cancel is.0)
 answered_asks work (line ∷ lines) es text is =
-    let one = replied work (request_of line) is.first.answer is.own is.first.replied in
+    let one = replied work (request_of line) is.first.given is.own is.first.replied in
     let rest = answered_asks work lines is.later is.rest is.others in (
       asks_is es (is.own ++ is.later) is.entries_are (asks_both is.own is.later one.asks rest.0),
       ap have_cancel is.entries_are

@@ -144,20 +144,19 @@ gate_cancelled : (opening : ℕ) (h : List Entry) → (gate_of opening h).cancel
 unfolding gate_of
 gate_cancelled opening h = refl
 
+among_pick : (b : Bool) (e : Entry) (l h : List Entry) → (have_cancel l ≡ true → have_cancel h ≡ true) → have_cancel (cond b (e ∷ l) l) ≡ true → have_cancel (e ∷ h) ≡ true
+among_pick true e l h rest has =
+    elim (cases_Bool (is_cancel e.call)) [
+      | inl here ↦ or_left (is_cancel e.call) (have_cancel h) here
+      | inr other ↦ or_right (is_cancel e.call) (have_cancel h) (rest (sym (ap (λ b. b || have_cancel l) other) ∙ has))
+    ]
+among_pick false e l h rest has = or_right (is_cancel e.call) (have_cancel h) (rest has)
+
 -- a cancel among a caller's entries is one of the history
 among_calls : (n : ℕ) (h : List Entry) → have_cancel (calls_of n h) ≡ true → have_cancel h ≡ true
 unfolding calls_of
 among_calls n [] has = has
-among_calls n (e ∷ h) has = pick (e.caller == n) has
-  where
-    pick : (b : Bool) → have_cancel (cond b (e ∷ calls_of n h) (calls_of n h)) ≡ true → have_cancel (e ∷ h) ≡ true
-    pick true has =
-        elim (cases_Bool (is_cancel e.call)) [
-          | inl here ↦ or_left (is_cancel e.call) (have_cancel h) here
-          | inr other ↦
-              or_right (is_cancel e.call) (have_cancel h) (among_calls n h (sym (ap (λ b. b || have_cancel (calls_of n h)) other) ∙ has))
-        ]
-    pick false has = or_right (is_cancel e.call) (have_cancel h) (among_calls n h has)
+among_calls n (e ∷ h) has = among_pick (e.caller == n) e (calls_of n h) h (among_calls n h) has
 
 same_bool : (a b : Bool) → (a ≡ true → b ≡ true) → (b ≡ true → a ≡ true) → a ≡ b
 same_bool true true f g = refl
@@ -247,13 +246,13 @@ IsBehind middle now = (now.left ≡ middle.left) × (now.heard ≡ middle.heard)
 
 same_outside : (m n : Outside) → IsBehind m n → n.held ≡ m.held → n.writes ≡ m.writes → n ≡ m
 same_outside m n behind held writes =
-    ap (λ x. at x n.heard n.held n.reads n.writes) behind.0
-    ∙ (ap (λ x. at m.left x n.held n.reads n.writes) behind.1
-    ∙ (ap (λ x. at m.left m.heard x n.reads n.writes) held
-    ∙ (ap (λ x. at m.left m.heard m.held x n.writes) behind.2 ∙ ap (λ x. at m.left m.heard m.held m.reads x) writes)))
+    ap (λ x. placed x n.heard n.held n.reads n.writes) behind.0
+    ∙ (ap (λ x. placed m.left x n.held n.reads n.writes) behind.1
+    ∙ (ap (λ x. placed m.left m.heard x n.reads n.writes) held
+    ∙ (ap (λ x. placed m.left m.heard m.held x n.writes) behind.2 ∙ ap (λ x. placed m.left m.heard m.held m.reads x) writes)))
   where
-    at : Option (List (List ℕ)) → List Heard → Option (List ℕ) → ℕ → ℕ → Outside
-    at left heard held reads writes = record { left = left; heard = heard; held = held; reads = reads; writes = writes }
+    placed : Option (List (List ℕ)) → List Heard → Option (List ℕ) → ℕ → ℕ → Outside
+    placed left heard held reads writes = record { left = left; heard = heard; held = held; reads = reads; writes = writes }
 
 module _ {B : Type 0} (terms : WorkTerms) (before middle now : Outside) (w : View B) (text : List ℕ) (cancelled : Bool) (behind : IsBehind middle now)
     (final : IsFinal terms w text) (gate : (gate_of w.target w.seen).cancelled ≡ cancelled) where

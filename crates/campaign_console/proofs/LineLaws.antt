@@ -339,7 +339,7 @@ module _ {B : Type 0} where
 
   pub line_answered : (work : WorkTerms) (line : List ℕ) (v w : View B) (given : Answer) (ran : Replied work (request_of line) given v w)
       → IsAnswered work line ran.entries (answer_text work.system.zone_names given)
-  line_answered work line v w given ran = record { answer = given; replied = ran.replied; said = refl }
+  line_answered work line v w given ran = record { given = given; replied = ran.replied; said = refl }
 
   -- without memory for the call there is none
   pub line_lacks : (work : WorkTerms) (line : List ℕ) (held held' : Option (List ℕ)) (writes writes' : ℕ) (v w : View B) → request_of line ≡ request.Report → Adds [] v w

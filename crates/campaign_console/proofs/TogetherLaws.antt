@@ -2,6 +2,7 @@
 use Rattle.std.proofs.Common.{◌≡◌, ◌≢◌, ◌==◌, ◌||◌, ◌⊎◌, ℕ, ◌+◌, ◌-◌, ◌<◌, min, inl, inr, Bool, true, false, List, [], ◌∷◌, ◌++◌, length, refl, ap, sym, ◌∙◌, subst, arith, append_assoc}
 use Rattle.std.proofs.lemmas.Bool.{ne_eqb, or_parts, false≢true}
 use Rattle.std.proofs.lemmas.List.{append-nil}
+use Rattle.std.specs.List.{list_any}
 use mathlib.Core.List.{IsPrefix}
 use Rattle.campaign_core.specs.declared.call.Call.TheVariants.{Claim, Cancel}
 use Rattle.campaign_core.specs.declared.call.Reply.{Reply}
@@ -75,7 +76,7 @@ module _ {B : Type 0} where
   not_owned : (n : View B) → IsSound n → n.number ≢ 0 → n.joined ≡ [] → calls_of 0 n.calls ≡ []
   not_owned n sound other nobody =
       sound.others 0
-      (ap (λ l. Rattle.std.specs.List.list_any (λ m. m == 0) (n.number ∷ l)) nobody ∙ (or_nothing (n.number == 0) ∙ ne_eqb n.number 0 other))
+      (ap (λ l. list_any (λ m. m == 0) (n.number ∷ l)) nobody ∙ (or_nothing (n.number == 0) ∙ ne_eqb n.number 0 other))
 
   module _ (v u m n k w : View B) (split : u ≡ with_made v) (new : m ≡ newcomer v) (workers : ℕ) (end : WorkEnd) (did : DidWork m end n) (busy : end ≢ Idle)
       (taken : TakesIn k n w) (both : HasBoth k n w) (sound : IsSound n) (opened : 0 < v.made) where

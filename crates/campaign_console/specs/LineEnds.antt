@@ -33,9 +33,9 @@ pub record Outside : Type 0 where
   pub reads : ℕ
   pub writes : ℕ
 
-abbrev pub outside : {C O : Type 0} → (C → Option (List (List ℕ))) → (C → List Heard) → (C → ℕ)
+abbrev pub outside_of : {C O : Type 0} → (C → Option (List (List ℕ))) → (C → List Heard) → (C → ℕ)
     → (O → Option (List ℕ)) → (O → ℕ) → C → O → Outside
-outside left heard reads held writes console sink = record {
+outside_of left heard reads held writes console sink = record {
   left = left console;
   heard = heard console;
   held = held sink;

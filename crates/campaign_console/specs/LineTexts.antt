@@ -63,9 +63,9 @@ IsReplied work asked other entries = ⊥
 
 -- a line has these entries and this text
 pub record IsAnswered (work : WorkTerms) (line : List ℕ) (entries : List Entry) (text : List ℕ) : Type 0 where
-  pub answer : Answer
-  pub replied : IsReplied work (request_of line) answer entries
-  pub said : text ≡ answer_text work.system.zone_names answer
+  pub given : Answer
+  pub replied : IsReplied work (request_of line) given entries
+  pub said : text ≡ answer_text work.system.zone_names given
 
 -- a line has the first of these entries and the first of this text, and later lines the rest
 pub record Begins (work : WorkTerms) (line : List ℕ) (Later : List Entry → List ℕ → Type 0) (entries : List Entry)

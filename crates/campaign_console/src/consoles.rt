@@ -6,7 +6,7 @@ ghost use Rattle.campaign_core.specs.History.{gate_of, deposits_of};
 ghost use Rattle.system_model.specs.System.{zone_count};
 ghost use Rattle.report_text.specs.GateText.{interim_text};
 ghost use Rattle.campaign.specs.Passes.{block_of, pass_of, target_of, work_of, IsFirst, IsOf, IsWhole};
-ghost use Rattle.campaign_console.specs.LineEnds.{outside};
+ghost use Rattle.campaign_console.specs.LineEnds.{outside_of};
 ghost use Rattle.campaign_console.specs.Ends.{Closes, ClosesRan, EndsAs};
 
 use crate::lines::LinesEnd;
@@ -71,8 +71,8 @@ pub fn console<'a, R: Threads + Wait + Sync, C: Console + Send, O: Sink + Send, 
     ensures runs { result.finished.runs ≡ runs_of (deposits_of (pass_of result.finished.last.value).seen) }
     // What stands at the end, by that history.
     ensures ends { EndsAs result.end (work_of campaign)
-        (outside C.left C.answers C.faults O.held O.faults lines.old out.old)
-        (outside C.left C.answers C.faults O.held O.faults lines.new out.new)
+        (outside_of C.left C.answers C.faults O.held O.faults lines.old out.old)
+        (outside_of C.left C.answers C.faults O.held O.faults lines.new out.new)
         (pass_of result.finished.last.value) }
 {
     let ran = run_together(

@@ -1,7 +1,7 @@
 //! The lines of a console, one after the other, each answered by a call on the campaign.
 ghost use Rattle.std.specs.Prelude.{◌≡◌, Some};
 ghost use Rattle.campaign.specs.Passes.{pass_of, work_of, IsOf, Says};
-ghost use Rattle.campaign_console.specs.LineEnds.{last_call, outside, LineRan, LinesRan, LinesCalled};
+ghost use Rattle.campaign_console.specs.LineEnds.{last_call, outside_of, LineRan, LinesRan, LinesCalled};
 ghost use Rattle.campaign_core.specs.declared.call.Reply.{Reply};
 
 use crate::answers::{ask, put_answer};
@@ -43,8 +43,8 @@ pub(crate) fn answer_lines<'a, R: Wait, C: Console, O: Sink>(
     requires system { (work_of campaign.now).system ≡ system.now }
     ensures pass { IsOf campaign.now pass.new }
     ensures lines { LinesCalled (work_of campaign.now) result
-        (outside C.left C.answers C.faults O.held O.faults lines.old out.old)
-        (outside C.left C.answers C.faults O.held O.faults lines.new out.new)
+        (outside_of C.left C.answers C.faults O.held O.faults lines.old out.old)
+        (outside_of C.left C.answers C.faults O.held O.faults lines.new out.new)
         (pass_of pass.old) (pass_of pass.new) }
 {
     let end = read_lines(rt, alloc, campaign, pass, system, lines, out);
@@ -79,8 +79,8 @@ fn read_lines<'a, R: Wait, C: Console, O: Sink>(
     requires system { (work_of campaign.now).system ≡ system.now }
     ensures pass { IsOf campaign.now pass.new }
     ensures lines { LinesRan (work_of campaign.now) (Some result)
-        (outside C.left C.answers C.faults O.held O.faults lines.old out.old)
-        (outside C.left C.answers C.faults O.held O.faults lines.new out.new)
+        (outside_of C.left C.answers C.faults O.held O.faults lines.old out.old)
+        (outside_of C.left C.answers C.faults O.held O.faults lines.new out.new)
         (pass_of pass.old) (pass_of pass.new) }
 {
     for _ in rt.forever() {
@@ -106,8 +106,8 @@ fn read_line<'a, R: Wait, C: Console, O: Sink>(
     requires system { (work_of campaign.now).system ≡ system.now }
     ensures pass { IsOf campaign.now pass.new }
     ensures lines { LinesRan (work_of campaign.now) result
-        (outside C.left C.answers C.faults O.held O.faults lines.old out.old)
-        (outside C.left C.answers C.faults O.held O.faults lines.new out.new)
+        (outside_of C.left C.answers C.faults O.held O.faults lines.old out.old)
+        (outside_of C.left C.answers C.faults O.held O.faults lines.new out.new)
         (pass_of pass.old) (pass_of pass.new) }
 {
     match lines.line(alloc) {

@@ -4,7 +4,7 @@ ghost use Rattle.std.specs.Thread.{IsSend, IsSync};
 ghost use Rattle.campaign.specs.Passes.{pass_of, work_of, IsOf};
 ghost use Rattle.campaign_workers.specs.declared.working.WorkEnd.{WorkEnd};
 ghost use Rattle.campaign_workers.specs.Working.{DidWork};
-ghost use Rattle.campaign_console.specs.LineEnds.{outside};
+ghost use Rattle.campaign_console.specs.LineEnds.{outside_of};
 ghost use Rattle.campaign_console.specs.Together.{HasRan};
 
 use crate::lines::{LinesEnd, answer_lines};
@@ -46,8 +46,8 @@ pub(crate) fn run_together<'a, R: Threads + Wait + Sync, C: Console + Send, O: S
     requires seed { (work_of campaign.now).seed ≡ seed }
     ensures pass { IsOf campaign.now pass.new }
     ensures ran { HasRan (work_of campaign.now) workers result
-        (outside C.left C.answers C.faults O.held O.faults lines.old out.old)
-        (outside C.left C.answers C.faults O.held O.faults lines.new out.new)
+        (outside_of C.left C.answers C.faults O.held O.faults lines.old out.old)
+        (outside_of C.left C.answers C.faults O.held O.faults lines.new out.new)
         (pass_of pass.old) (pass_of pass.new) }
 {
     if workers == 0 {
@@ -104,8 +104,8 @@ fn run_one_more<'a, R: Threads + Wait + Sync, C: Console + Send, O: Sink + Send,
     ensures work { DidWork (pass_of mine.old) result.0 (pass_of mine.new) }
     ensures busy { result.0 ≢ WorkEnd.Idle }
     ensures ran { HasRan (work_of campaign.now) others result.1
-        (outside C.left C.answers C.faults O.held O.faults lines.old out.old)
-        (outside C.left C.answers C.faults O.held O.faults lines.new out.new)
+        (outside_of C.left C.answers C.faults O.held O.faults lines.old out.old)
+        (outside_of C.left C.answers C.faults O.held O.faults lines.new out.new)
         (pass_of pass.old) (pass_of pass.new) }
 {
     join_mut(
@@ -123,8 +123,8 @@ fn run_one_more<'a, R: Threads + Wait + Sync, C: Console + Send, O: Sink + Send,
                 × ((work_of campaign.now).system ≡ system.now) × ((work_of campaign.now).seed ≡ seed) }
             ensures pass { IsOf campaign.entry.now pass.exit.now }
             ensures ran { HasRan (work_of campaign.entry.now) others result
-                (outside C.left C.answers C.faults O.held O.faults lines.entry.now out.entry.now)
-                (outside C.left C.answers C.faults O.held O.faults lines.exit.now out.exit.now)
+                (outside_of C.left C.answers C.faults O.held O.faults lines.entry.now out.entry.now)
+                (outside_of C.left C.answers C.faults O.held O.faults lines.exit.now out.exit.now)
                 (pass_of pass.entry.now) (pass_of pass.exit.now) }
         { run_together(rt, alloc, campaign, pass, system, seed, others, lines, out, pause) },
     )
