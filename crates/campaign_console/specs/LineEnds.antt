@@ -35,12 +35,12 @@ pub record Outside : Type 0 where
 
 abbrev pub outside_of : {C O : Type 0} → (C → Option (List (List ℕ))) → (C → List Heard) → (C → ℕ)
     → (O → Option (List ℕ)) → (O → ℕ) → C → O → Outside
-outside_of left heard reads held writes console sink = record {
-  left = left console;
-  heard = heard console;
-  held = held sink;
-  reads = reads console;
-  writes = writes sink;
+outside_of left_of heard_by reads_of held_by writes_of console sink = record {
+  left = left_of console;
+  heard = heard_by console;
+  held = held_by sink;
+  reads = reads_of console;
+  writes = writes_of sink;
 }
 
 -- a line that came

@@ -82,4 +82,5 @@ pub record Begins (work : WorkTerms) (line : List ℕ) (Later : List Entry → L
 -- lines have these entries and this text, one line after the other
 abbrev pub AreAnswered : WorkTerms → List (List ℕ) → List Entry → List ℕ → Type 0
 AreAnswered work [] entries text = (entries ≡ []) × (text ≡ [])
-AreAnswered work (line ∷ lines) entries text = Begins work line (AreAnswered work lines) entries text
+AreAnswered work (line ∷ lines) entries text =
+    Begins work line (λ later rest. AreAnswered work lines later rest) entries text

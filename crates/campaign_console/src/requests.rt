@@ -88,12 +88,10 @@ fn extension_of(number: &[u8]) -> Request
 fn are_digits(bytes: &[u8]) -> bool
     ensures { result ≡ list_all is_ascii_digit bytes.now }
 {
-    let mut rest = bytes;
-    while let Some((byte, tail)) = rest.split_first() {
+    for byte in bytes {
         if !byte.is_ascii_digit() {
             return false;
         }
-        rest = tail;
     }
     true
 }
