@@ -111,25 +111,26 @@ after_legal opening block h (e ∷ more) legal =
 
 -- ---- the whole history's cancel is one of the opening pass
 
+first_cancel : (e : Entry) (h : List Entry) → is_cancel e.call ≡ true → have_cancel (calls_of e.caller (e ∷ h)) ≡ true
+unfolding calls_of
+first_cancel e h here = rw (eq-eqb e.caller e.caller refl, here) refl
+
+later_pick : (b : Bool) (e : Entry) (l : List Entry) → have_cancel l ≡ true → have_cancel (cond b (e ∷ l) l) ≡ true
+later_pick true e l has = or_right (is_cancel e.call) (have_cancel l) has
+later_pick false e l has = has
+
+later_cancel : (n : ℕ) (e : Entry) (h : List Entry) → have_cancel (calls_of n h) ≡ true → have_cancel (calls_of n (e ∷ h)) ≡ true
+unfolding calls_of
+later_cancel n e h has = later_pick (e.caller == n) e (calls_of n h) has
+
 any_cancel : (h : List Entry) → have_cancel h ≡ true → (n : ℕ) × (have_cancel (calls_of n h) ≡ true)
 any_cancel [] has = absurd (false≢true has)
 any_cancel (e ∷ h) has =
     elim (cases_Bool (is_cancel e.call)) [
-      | inl here ↦ (e.caller, first e h here)
-      | inr other ↦ let rest = any_cancel h (sym (ap (λ b. b || have_cancel h) other) ∙ has) in (rest.0, later rest.0 e h rest.1)
+      | inl here ↦ (e.caller, first_cancel e h here)
+      | inr other ↦
+          let rest = any_cancel h (sym (ap (λ b. b || have_cancel h) other) ∙ has) in (rest.0, later_cancel rest.0 e h rest.1)
     ]
-  where
-    first : (e : Entry) (h : List Entry) → is_cancel e.call ≡ true → have_cancel (calls_of e.caller (e ∷ h)) ≡ true
-    unfolding calls_of
-    first e h here = rw (eq-eqb e.caller e.caller refl, here) refl
-
-    pick : (b : Bool) (e : Entry) (l : List Entry) → have_cancel l ≡ true → have_cancel (cond b (e ∷ l) l) ≡ true
-    pick true e l has = or_right (is_cancel e.call) (have_cancel l) has
-    pick false e l has = has
-
-    later : (n : ℕ) (e : Entry) (h : List Entry) → have_cancel (calls_of n h) ≡ true → have_cancel (calls_of n (e ∷ h)) ≡ true
-    unfolding calls_of
-    later n e h has = pick (e.caller == n) e (calls_of n h) has
 
 -- work has no cancel
 work_cancels : (es : List Entry) → AreWork es → have_cancel es ≡ false

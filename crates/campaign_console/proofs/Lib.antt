@@ -1,5 +1,7 @@
 pub mod AddLaws
+pub mod AskLaws
 pub mod LineLaws
 pub mod CallLaws
 pub mod TogetherLaws
 pub mod EndLaws
+pub mod Laws

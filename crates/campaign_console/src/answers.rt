@@ -65,29 +65,44 @@ pub(crate) fn ask<'a, R: Wait>(
     ensures lacks { OnErr result (request ≡ Request.Report) }
     ensures none { OnErr result (Adds [] (pass_of pass.old) (pass_of pass.new)) }
 {
-    let answer = match request {
-        Request::Progress => Answer::Progress(campaign.progress(pass)),
-        Request::Report => {
-            let report = campaign.interim(rt, alloc, pass)?;
-            Answer::Report {
-                gate: report.gate,
-                runs: report.runs,
-                totals: report.sum,
-            }
-        }
-        Request::Extend { more } => extend(rt, campaign, pass, more),
+    match request {
+        Request::Progress => Ok(Answer::Progress(campaign.progress(pass))),
+        Request::Report => report(rt, alloc, campaign, pass),
+        Request::Extend { more } => Ok(extend(rt, campaign, pass, more)),
         Request::Seal => {
             campaign.seal(pass);
-            Answer::Sealed
+            Ok(Answer::Sealed)
         }
         Request::Cancel => {
             campaign.cancel(pass);
-            Answer::Cancelled
+            Ok(Answer::Cancelled)
         }
-        Request::Long => Answer::Long,
-        Request::Unknown => Answer::Unknown,
-    };
-    Ok(answer)
+        Request::Long => Ok(Answer::Long),
+        Request::Unknown => Ok(Answer::Unknown),
+    }
+}
+
+// Asks for what was deposited so far.
+fn report<'a, R: Wait>(
+    rt: &R,
+    alloc: Global,
+    campaign: &Campaign<SampleWork<'a>>,
+    pass: &mut Pass<SampleWork<'a>>,
+) -> Result<Answer, OutOfMemory>
+    requires pass { IsOf campaign.now pass.old }
+    requires opening { (pass_of pass.old).number ≡ 0 }
+    ensures pass { IsOf campaign.now pass.new }
+    ensures ok { IfOk result (λ answer.
+        Replied (work_of campaign.now) Request.Report answer (pass_of pass.old) (pass_of pass.new)) }
+    ensures zones { IfOk result (HasZones (work_of campaign.now).system) }
+    ensures none { OnErr result (Adds [] (pass_of pass.old) (pass_of pass.new)) }
+{
+    let report = campaign.interim(rt, alloc, pass)?;
+    Ok(Answer::Report {
+        gate: report.gate,
+        runs: report.runs,
+        totals: report.sum,
+    })
 }
 
 // Asks for samples behind the target, again where another call came between.

@@ -1,5 +1,5 @@
 //! The lines of a console, one after the other, each answered by a call on the campaign.
-ghost use Rattle.std.specs.Prelude.{◌≡◌, Some};
+ghost use Rattle.std.specs.Prelude.{◌≡◌};
 ghost use Rattle.campaign.specs.Passes.{pass_of, work_of, IsOf, Says};
 ghost use Rattle.campaign_console.specs.LineEnds.{last_call, outside_of, LineRan, LinesRan, LinesCalled};
 ghost use Rattle.campaign_core.specs.declared.call.Reply.{Reply};
