@@ -100,8 +100,8 @@ answered_asks work (line ∷ lines) es text is =
     let rest = answered_asks work lines is.later is.rest is.others in (
       asks_is es (is.own ++ is.later) is.entries_are (asks_both is.own is.later one.asks rest.0),
       ap have_cancel is.entries_are
-      ∙ (cancel-append is.own is.later
-      ∙ (ap (λ b. b || have_cancel is.later) one.cancels ∙ ap (λ b. asks_cancel line || b) rest.1)),
+          ∙ (cancel-append is.own is.later
+          ∙ (ap (λ b. b || have_cancel is.later) one.cancels ∙ ap (λ b. asks_cancel line || b) rest.1)),
     )
 
 asks_last : (end : LinesEnd) → AreAsks (made (last_call end) reply.Marked)

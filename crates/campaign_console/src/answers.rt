@@ -136,7 +136,11 @@ fn extend<'a, R: Wait>(
 
 /// Appends the text of an answer. Without memory the text stays as it was.
 #[tactic(auto, unfolding(crate::specs::LineTexts::answer_text))]
-pub(crate) fn put_answer(out: &mut Text, system: &System, answer: &Answer) -> Result<(), OutOfMemory>
+pub(crate) fn put_answer(
+    out: &mut Text,
+    system: &System,
+    answer: &Answer,
+) -> Result<(), OutOfMemory>
     requires { HasZones system.now answer.now }
     ensures { OnOk result (out.new ≡ out.old ++ answer_text system.now.zone_names answer.now) }
 {

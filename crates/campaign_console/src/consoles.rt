@@ -122,7 +122,15 @@ fn write_final<'a, O: Sink>(
         (interim_text system.now.zone_names finished.now.gate finished.now.runs finished.now.sum) }
 {
     let mut text = Text::new(alloc);
-    if put_interim(&mut text, system, finished.gate, &finished.runs, &finished.sum).is_err() {
+    if put_interim(
+        &mut text,
+        system,
+        finished.gate,
+        &finished.runs,
+        &finished.sum,
+    )
+    .is_err()
+    {
         return ConsoleEnd::OutOfMemory;
     }
     if out.write(text.bytes()).is_err() {

@@ -27,7 +27,13 @@ pub struct Ran {
 /// Answers lines while so many workers run, each with a pass that is split off and joined back. The lines are
 /// answered in this thread, and first where no other can be made: at their end the workers come to theirs.
 #[cycle(together)]
-pub(crate) fn run_together<'a, R: Threads + Wait + Sync, C: Console + Send, O: Sink + Send, P: Pause + Sync>(
+pub(crate) fn run_together<
+    'a,
+    R: Threads + Wait + Sync,
+    C: Console + Send,
+    O: Sink + Send,
+    P: Pause + Sync,
+>(
     rt: &R,
     alloc: Global,
     campaign: &Campaign<SampleWork<'a>>,
@@ -126,7 +132,11 @@ fn run_one_more<'a, R: Threads + Wait + Sync, C: Console + Send, O: Sink + Send,
                 (outside_of C.left C.answers C.faults O.held O.faults lines.entry.now out.entry.now)
                 (outside_of C.left C.answers C.faults O.held O.faults lines.exit.now out.exit.now)
                 (pass_of pass.entry.now) (pass_of pass.exit.now) }
-        { run_together(rt, alloc, campaign, pass, system, seed, others, lines, out, pause) },
+        {
+            run_together(
+                rt, alloc, campaign, pass, system, seed, others, lines, out, pause,
+            )
+        },
     )
 }
 
