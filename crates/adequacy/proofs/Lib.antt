@@ -5,3 +5,4 @@ pub mod ReportLemmas
 pub mod StoredLemmas
 pub mod StudyLemmas
 pub mod TopLemmas
+pub mod TraceLemmas

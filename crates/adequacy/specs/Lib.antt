@@ -10,6 +10,7 @@ pub mod OptionWords
 pub mod Parse
 pub mod Requests
 pub mod StudyText
+pub mod Traces
 pub mod WordFaultText
 pub mod Words
 pub mod WorkedWords

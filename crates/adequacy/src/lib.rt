@@ -6,6 +6,7 @@ mod endings;
 mod studies;
 mod tables;
 mod top;
+mod traces;
 mod waiting;
 mod words;
 mod writing;
