@@ -229,3 +229,5 @@ fn write_answer<O: Sink>(
 mod schedule_tests;
 #[cfg(test)]
 mod tests;
+#[cfg(test)]
+mod trial_tests;
