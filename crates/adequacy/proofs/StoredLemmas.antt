@@ -12,7 +12,7 @@ use Rattle.adequacy.specs.declared.tables.FolderError.TheVariants.{ReadFault, Ou
 use Rattle.adequacy.specs.Folder.{Answer, read_outcome, with_table, HasAnswered, AreTold, stored_answer, stored_from}
 
 -- what came of reads is this, or a read failed, or memory wasn't found
-abbrev pub IsUnless : Result TableBytes FolderError → Result TableBytes FolderError → Type 0
+abbrev pub IsUnless : {T : Type 0} → Result T FolderError → Result T FolderError → Type 0
 IsUnless outcome expected = (outcome ≡ expected) ⊎ ((outcome ≡ Err ReadFault) ⊎ (outcome ≡ Err OutOfMemory))
 
 long_enough : (n : ℕ) → n ≤ MOST_TABLE_BYTES → nat_le n MOST_TABLE_BYTES ≡ true

@@ -1,5 +1,5 @@
 -- What the top call says of a line's run where the shelf tells its contents.
-use Rattle.std.proofs.Common.{◌≡◌, ℕ, List, Option, Some, Result, Ok, Err, refl, subst, inl, inr, ◌⊎◌}
+use Rattle.std.proofs.Common.{◌≡◌, ℕ, List, Option, Some, Result, Ok, Err, None, refl, ap, subst, inl, inr, ◌⊎◌}
 use Rattle.ra_base.specs.Causes.{Counts, Rose}
 use Rattle.ra_base.specs.Outside.{Tables}
 use Rattle.ra_base.specs.Reading.{Reading}
@@ -17,7 +17,8 @@ use Rattle.adequacy.specs.LineParts.{LineParts}
 use Rattle.adequacy.specs.Requests.{request_of}
 use Rattle.adequacy.specs.declared.words.fault.WordFault.{WordFault}
 use Rattle.adequacy.specs.declared.words.request.Request.{Request}
-use Rattle.adequacy.specs.Folder.{no_tables, table_order, stored_tables, stored_from, folder_outcome, FolderSpells, IsRefused}
+use Rattle.adequacy.specs.Folder.{Answer, AreTold, HasAnswered, no_tables, table_order, stored_tables, stored_from, folder_outcome}
+use Rattle.adequacy.specs.Sources.{made_number, system_outcome, stored_outcome, tables_read, IsRefused, RunsFor}
 use Rattle.adequacy.specs.Endings.{Ending, AnswerGained, Ends, Tells, HasRun, IsAsked, Reports, RunsOn, says_read_fault, says_write_fault}
 use Rattle.adequacy.proofs.StoredLemmas.{IsUnless, told_outcome}
 
@@ -26,7 +27,7 @@ pub same_line : {asked : Result LineParts WordFault} {a b : LineParts} → asked
 same_line is is' = cc
 
 -- where a read failed or memory wasn't found, a run ends so
-fault_ended : (request : Request) (expected : Result TableBytes FolderError) (ending : Ending) (held held' : Option (List ℕ)) → Ends request (Err folder.ReadFault) ending held held' → (ending ≡ Err ReadFault) ⊎ Ends request expected ending held held'
+fault_ended : (request : Request) (expected : Result SystemParts FolderError) (ending : Ending) (held held' : Option (List ℕ)) → Ends request (Err folder.ReadFault) ending held held' → (ending ≡ Err ReadFault) ⊎ Ends request expected ending held held'
 fault_ended request expected (Ok done) held held' (system, is, gained) = absurd (cc)
 fault_ended request expected (Err (Words fault)) held held' ended = absurd ended
 fault_ended request expected (Err (Refused refusal)) held held' (is, same) = absurd (cc)
@@ -34,7 +35,7 @@ fault_ended request expected (Err ReadFault) held held' ended = inl refl
 fault_ended request expected (Err WriteFault) held held' (system, is, gained) = absurd (cc)
 fault_ended request expected (Err OutOfMemory) held held' ended = inr ended
 
-memory_ended : (request : Request) (expected : Result TableBytes FolderError) (ending : Ending) (held held' : Option (List ℕ)) → Ends request (Err folder.OutOfMemory) ending held held' → (ending ≡ Err ReadFault) ⊎ Ends request expected ending held held'
+memory_ended : (request : Request) (expected : Result SystemParts FolderError) (ending : Ending) (held held' : Option (List ℕ)) → Ends request (Err folder.OutOfMemory) ending held held' → (ending ≡ Err ReadFault) ⊎ Ends request expected ending held held'
 memory_ended request expected (Ok done) held held' (system, is, gained) = absurd (cc)
 memory_ended request expected (Err (Words fault)) held held' ended = absurd ended
 memory_ended request expected (Err (Refused refusal)) held held' (is, same) = absurd (cc)
@@ -42,25 +43,40 @@ memory_ended request expected (Err ReadFault) held held' (is, same) = absurd (cc
 memory_ended request expected (Err WriteFault) held held' (system, is, gained) = absurd (cc)
 memory_ended request expected (Err OutOfMemory) held held' ended = inr ended
 
-unless_ended : (request : Request) (tables expected : Result TableBytes FolderError) (ending : Ending) (held held' : Option (List ℕ)) → IsUnless tables expected → Ends request tables ending held held' → (ending ≡ Err ReadFault) ⊎ Ends request expected ending held held'
-unless_ended request tables expected ending held held' (inl same) ended =
-    inr (subst (λ (t : Result TableBytes FolderError). Ends request t ending held held') same ended)
-unless_ended request tables expected ending held held' (inr (inl fault)) ended =
-    fault_ended request expected ending held held' (subst (λ (t : Result TableBytes FolderError). Ends request t ending held held') fault ended)
-unless_ended request tables expected ending held held' (inr (inr none)) ended =
-    memory_ended request expected ending held held' (subst (λ (t : Result TableBytes FolderError). Ends request t ending held held') none ended)
+unless_ended : (request : Request) (came expected : Result SystemParts FolderError) (ending : Ending) (held held' : Option (List ℕ)) → IsUnless came expected → Ends request came ending held held' → (ending ≡ Err ReadFault) ⊎ Ends request expected ending held held'
+unless_ended request came expected ending held held' (inl same) ended =
+    inr (subst (λ (c : Result SystemParts FolderError). Ends request c ending held held') same ended)
+unless_ended request came expected ending held held' (inr (inl fault)) ended =
+    fault_ended request expected ending held held' (subst (λ (c : Result SystemParts FolderError). Ends request c ending held held') fault ended)
+unless_ended request came expected ending held held' (inr (inr none)) ended =
+    memory_ended request expected ending held held' (subst (λ (c : Result SystemParts FolderError). Ends request c ending held held') none ended)
+
+-- what a folder comes to, by what its reads came to
+folder_unless : (tables expected : Result TableBytes FolderError) → IsUnless tables expected → IsUnless (folder_outcome tables) (folder_outcome expected)
+folder_unless tables expected (inl same) = inl (ap folder_outcome same)
+folder_unless tables expected (inr (inl fault)) = inr (inl (ap folder_outcome fault))
+folder_unless tables expected (inr (inr none)) = inr (inr (ap folder_outcome none))
+
+-- answers that are those of stored tables give the system that these give, or a read failed, or memory wasn't found; a
+-- system that is made needs none
+came_unless : (number : Option ℕ) (stored : Tables) (folder : List ℕ) (answers : List Answer) (tables : Result TableBytes FolderError)
+    → HasAnswered no_tables (tables_read number) answers tables → AreTold (Some stored) folder (tables_read number) answers
+    → IsUnless (system_outcome number tables) (system_outcome number (stored_tables stored folder))
+unfolding stored_tables
+came_unless (Some number) stored folder answers tables answered told = inl refl
+came_unless None stored folder answers tables answered told =
+    folder_unless tables (stored_from stored folder table_order no_tables) (told_outcome stored folder table_order answers no_tables tables answered told)
 
 -- a run on answers that are those of stored tables is a run on these
 pub runs_on : (contents : Option Tables) (stored : Tables) (line : LineParts) (ends : Status) (reads reads' : List Reading) (counts counts' : ShelfCounts) (held held' said said' : Option (List ℕ)) (faults faults' : ℕ)
     → contents ≡ Some stored → HasRun contents line ends reads reads' counts counts' held held' said said' faults faults'
     → RunsOn stored line ends held held' said said' faults faults'
-unfolding stored_tables
 runs_on contents stored line ends reads reads' counts counts' held held' said said' f f' told run =
     let stood = rw told at run.read.told in
     record {
       ending = run.ending;
-      ended = unless_ended (request_of line) run.tables (stored_from stored line.place table_order no_tables) run.ending held held'
-          (told_outcome stored line.place table_order run.read.answers no_tables run.tables run.read.answered stood) run.ended;
+      ended = unless_ended (request_of line) (system_outcome (made_number line) run.tables) (stored_outcome stored line) run.ending held held'
+          (came_unless (made_number line) stored line.place run.read.answers run.tables run.read.answered stood) run.ended;
       told = run.told;
     }
 
@@ -86,51 +102,51 @@ not_write_fault : (ends : Status) (faults faults' : ℕ) → Counts (says_write_
 not_write_fault ends faults faults' counts none is = none ((rw is at counts).1)
 
 -- a run on tables that spell a system, where no fault was counted
-spelled_ended : (request : Request) (tables : Result TableBytes FolderError) (system : SystemParts) (ending : Ending) (ends : Status) (held held' said said' : Option (List ℕ)) (f f' : ℕ)
-    → folder_outcome tables ≡ Ok system
+spelled_ended : (request : Request) (came : Result SystemParts FolderError) (system : SystemParts) (ending : Ending) (ends : Status) (held held' said said' : Option (List ℕ)) (f f' : ℕ)
+    → came ≡ Ok system
     → (ends ≡ status.ReadFault → ⊥) → (ends ≡ status.WriteFault → ⊥)
-    → (ending ≡ Err ReadFault) ⊎ Ends request tables ending held held' → Tells ending ends said said' f f'
+    → (ending ≡ Err ReadFault) ⊎ Ends request came ending held held' → Tells ending ends said said' f f'
     → ((ends ≡ status.Done) × AnswerGained request system held held') ⊎ (ends ≡ status.OutOfMemory)
-spelled_ended request tables system ending ends held held' said said' f f' spells no_read no_write (inl fault) told =
+spelled_ended request came system ending ends held held' said said' f f' spells no_read no_write (inl fault) told =
     absurd (no_read ((rw fault at told).0))
-spelled_ended request tables system (Ok done) ends held held' said said' f f' spells no_read no_write (inr (other, is, gained)) told =
+spelled_ended request came system (Ok done) ends held held' said said' f f' spells no_read no_write (inr (other, is, gained)) told =
     let same : other ≡ system = cc in
     inl (told.0, subst (λ (s : SystemParts). AnswerGained request s held held') same gained)
-spelled_ended request tables system (Err (Words fault)) ends held held' said said' f f' spells no_read no_write (inr ended) told = absurd ended
-spelled_ended request tables system (Err (Refused refusal)) ends held held' said said' f f' spells no_read no_write (inr (is, same)) told = absurd (cc)
-spelled_ended request tables system (Err ReadFault) ends held held' said said' f f' spells no_read no_write (inr (is, same)) told = absurd (cc)
-spelled_ended request tables system (Err WriteFault) ends held held' said said' f f' spells no_read no_write (inr ended) told = absurd (no_write told.0)
-spelled_ended request tables system (Err OutOfMemory) ends held held' said said' f f' spells no_read no_write (inr ended) told = inr told.0
+spelled_ended request came system (Err (Words fault)) ends held held' said said' f f' spells no_read no_write (inr ended) told = absurd ended
+spelled_ended request came system (Err (Refused refusal)) ends held held' said said' f f' spells no_read no_write (inr (is, same)) told = absurd (cc)
+spelled_ended request came system (Err ReadFault) ends held held' said said' f f' spells no_read no_write (inr (is, same)) told = absurd (cc)
+spelled_ended request came system (Err WriteFault) ends held held' said said' f f' spells no_read no_write (inr ended) told = absurd (no_write told.0)
+spelled_ended request came system (Err OutOfMemory) ends held held' said said' f f' spells no_read no_write (inr ended) told = inr told.0
 
 -- a run on tables that are refused, where no read failed
-refused_ended : (request : Request) (tables : Result TableBytes FolderError) (refusal : Refusal) (ending : Ending) (ends : Status) (held held' said said' : Option (List ℕ)) (f f' : ℕ)
-    → folder_outcome tables ≡ Err (folder.Refused refusal)
+refused_ended : (request : Request) (came : Result SystemParts FolderError) (refusal : Refusal) (ending : Ending) (ends : Status) (held held' said said' : Option (List ℕ)) (f f' : ℕ)
+    → came ≡ Err (folder.Refused refusal)
     → (ends ≡ status.ReadFault → ⊥)
-    → (ending ≡ Err ReadFault) ⊎ Ends request tables ending held held' → Tells ending ends said said' f f'
+    → (ending ≡ Err ReadFault) ⊎ Ends request came ending held held' → Tells ending ends said said' f f'
     → Tells (Err (Refused refusal)) ends said said' f f' ⊎ (ends ≡ status.OutOfMemory)
-refused_ended request tables refusal ending ends held held' said said' f f' refused no_read (inl fault) told =
+refused_ended request came refusal ending ends held held' said said' f f' refused no_read (inl fault) told =
     absurd (no_read ((rw fault at told).0))
-refused_ended request tables refusal (Ok done) ends held held' said said' f f' refused no_read (inr (system, is, gained)) told = absurd (cc)
-refused_ended request tables refusal (Err (Words fault)) ends held held' said said' f f' refused no_read (inr ended) told = absurd ended
-refused_ended request tables refusal (Err (Refused other)) ends held held' said said' f f' refused no_read (inr (is, same)) told =
+refused_ended request came refusal (Ok done) ends held held' said said' f f' refused no_read (inr (system, is, gained)) told = absurd (cc)
+refused_ended request came refusal (Err (Words fault)) ends held held' said said' f f' refused no_read (inr ended) told = absurd ended
+refused_ended request came refusal (Err (Refused other)) ends held held' said said' f f' refused no_read (inr (is, same)) told =
     let one : other ≡ refusal = cc in
     inl (subst (λ (r : Refusal). Tells (Err (Refused r)) ends said said' f f') one told)
-refused_ended request tables refusal (Err ReadFault) ends held held' said said' f f' refused no_read (inr (is, same)) told = absurd (cc)
-refused_ended request tables refusal (Err WriteFault) ends held held' said said' f f' refused no_read (inr (system, is, gained)) told = absurd (cc)
-refused_ended request tables refusal (Err OutOfMemory) ends held held' said said' f f' refused no_read (inr ended) told = inr told.0
+refused_ended request came refusal (Err ReadFault) ends held held' said said' f f' refused no_read (inr (is, same)) told = absurd (cc)
+refused_ended request came refusal (Err WriteFault) ends held held' said said' f f' refused no_read (inr (system, is, gained)) told = absurd (cc)
+refused_ended request came refusal (Err OutOfMemory) ends held held' said said' f f' refused no_read (inr ended) told = inr told.0
 
 pub answered_by : (stored : Tables) (line : LineParts) (system : SystemParts) (ends : Status) (held held' said said' : Option (List ℕ)) (f f' r r' w w' : ℕ)
-    → RunsOn stored line ends held held' said said' f f' → FolderSpells stored line.place system
+    → RunsOn stored line ends held held' said said' f f' → RunsFor stored line system
     → Counts (says_read_fault ends) r r' → Counts (says_write_fault ends) w w' → (Rose r r' → ⊥) → (Rose w w' → ⊥)
     → ((ends ≡ status.Done) × AnswerGained (request_of line) system held held') ⊎ (ends ≡ status.OutOfMemory)
 answered_by stored line system ends held held' said said' f f' r r' w w' run spells read write no_read no_write =
-    spelled_ended (request_of line) (stored_tables stored line.place) system run.ending ends held held' said said' f f' spells
+    spelled_ended (request_of line) (stored_outcome stored line) system run.ending ends held held' said said' f f' spells
     (not_read_fault ends r r' read no_read) (not_write_fault ends w w' write no_write) run.ended run.told
 
 pub refused_by : (stored : Tables) (line : LineParts) (refusal : Refusal) (ends : Status) (held held' said said' : Option (List ℕ)) (f f' r r' : ℕ)
-    → RunsOn stored line ends held held' said said' f f' → IsRefused stored line.place refusal
+    → RunsOn stored line ends held held' said said' f f' → IsRefused stored line refusal
     → Counts (says_read_fault ends) r r' → (Rose r r' → ⊥)
     → Tells (Err (Refused refusal)) ends said said' f f' ⊎ (ends ≡ status.OutOfMemory)
 refused_by stored line refusal ends held held' said said' f f' r r' run refused read no_read =
-    refused_ended (request_of line) (stored_tables stored line.place) refusal run.ending ends held held' said said' f f' refused
+    refused_ended (request_of line) (stored_outcome stored line) refusal run.ending ends held held' said said' f f' refused
     (not_read_fault ends r r' read no_read) run.ended run.told

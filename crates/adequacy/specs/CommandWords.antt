@@ -46,6 +46,11 @@ abbrev pub is_simulation : Command → Bool
 is_simulation Trace = true
 is_simulation command = is_campaign command
 
+-- the system of a trial is made from a number
+abbrev pub is_trial : Command → Bool
+is_trial Trial = true
+is_trial _ = false
+
 abbrev pub is_trace : Command → Bool
 is_trace Trace = true
 is_trace _ = false

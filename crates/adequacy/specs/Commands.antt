@@ -1,5 +1,5 @@
 -- What each command answers.
-use Rattle.std.specs.Prelude.{◌≡◌, Bool, true, false, None, List, ℕ, map, Result, Ok, Err, if◌then◌else◌}
+use Rattle.std.specs.Prelude.{◌≡◌, ◌++◌, Bool, true, false, None, List, ℕ, map, Result, Ok, Err, if◌then◌else◌}
 use Rattle.system_model.specs.System.{SystemParts}
 use Rattle.load_model.specs.Need.{net_hour_of, peak_of}
 use Rattle.analytic_index.specs.Pool.{pool_of}
@@ -26,7 +26,7 @@ check_text system =
     check_line system peak.mw peak.hour
 
 -- the bytes answer a request for a system; a credit's are the text of the one bracket of the unit's worth, whose ends
--- the exact indices certify
+-- the exact indices certify, and a trial's are the line of a check and then those of a study
 abbrev pub IsAnswer : Request → SystemParts → List ℕ → Type 0
 IsAnswer Check system text = text ≡ check_text system
 IsAnswer Table system text = text ≡ table_text (pool_of system None).units
@@ -36,8 +36,9 @@ IsAnswer (Credit terms) system text =
     × IsCertified terms.kind terms.measure system terms.unit bracket
     × (text ≡ bracket_text terms.kind terms.measure bracket)
 IsAnswer (Study terms) system text = IsStudyText system terms text
+IsAnswer (Trial number terms) system text =
+    (totals : List ℕ) × IsStudyText system terms totals × (text ≡ check_text system ++ totals)
 IsAnswer (Trace terms) system text = ⊥
-IsAnswer (Trial number terms) system text = ⊥
 IsAnswer (Console terms) system text = ⊥
 
 -- whether a command is built
@@ -47,8 +48,8 @@ is_built command.Table = true
 is_built command.Index = true
 is_built command.Credit = true
 is_built command.Study = true
+is_built command.Trial = true
 is_built command.Trace = false
-is_built command.Trial = false
 is_built command.Console = false
 
 -- whether a request is one whose workers are waited for
@@ -61,7 +62,6 @@ waits request = false
 -- whether a request is one of a command that is built
 abbrev pub can_answer : Request → Bool
 can_answer (Trace terms) = false
-can_answer (Trial number terms) = false
 can_answer (Console terms) = false
 can_answer request = true
 

@@ -10,9 +10,10 @@ use Rattle.ra_base.specs.declared.table.TableBytes.{TableBytes}
 use Rattle.system_model.specs.System.{SystemParts}
 use Rattle.adequacy.specs.Commands.{IsAnswer}
 use Rattle.report_text.specs.FaultText.{table_text, fault_line}
-use Rattle.adequacy.specs.Folder.{folder_outcome, no_tables, table_order, HasRead, stored_tables}
+use Rattle.adequacy.specs.Folder.{no_tables, HasRead}
 use Rattle.adequacy.specs.LineParts.{LineParts}
 use Rattle.adequacy.specs.Requests.{request_of}
+use Rattle.adequacy.specs.Sources.{made_number, system_outcome, stored_outcome, tables_read}
 use Rattle.adequacy.specs.WordFaultText.{word_fault_text}
 use Rattle.adequacy.specs.declared.endings.Failure.{Failure}
 use Rattle.adequacy.specs.declared.endings.Failure.TheVariants.{Words, Refused, ReadFault, WriteFault, OutOfMemory}
@@ -114,16 +115,15 @@ Answers request system (Err (Words fault)) before now = ⊥
 Answers request system (Err (Refused refusal)) before now = ⊥
 Answers request system (Err ReadFault) before now = ⊥
 
--- how a request ends for a folder, by what the reads of its tables came to: where they spell a system, by what it
--- answers for that system; where they are refused, for that reason; where a read failed, so
-abbrev pub Ends : Request → Result TableBytes FolderError → Ending → Option (List ℕ) → Option (List ℕ) → Type 0
-Ends request tables (Err OutOfMemory) before now = now ≡ before
-Ends request tables (Err (Words fault)) before now = ⊥
-Ends request tables (Err (Refused refusal)) before now =
-    (folder_outcome tables ≡ Err (folder.Refused refusal)) × (now ≡ before)
-Ends request tables (Err ReadFault) before now = (folder_outcome tables ≡ Err folder.ReadFault) × (now ≡ before)
-Ends request tables ending before now =
-    (system : SystemParts) × (folder_outcome tables ≡ Ok system) × Answers request system ending before now
+-- how a request ends, by what its system came to: where there is one, by what it answers for that system; where the
+-- tables are refused, for that reason; where a read failed, so
+abbrev pub Ends : Request → Result SystemParts FolderError → Ending → Option (List ℕ) → Option (List ℕ) → Type 0
+Ends request came (Err OutOfMemory) before now = now ≡ before
+Ends request came (Err (Words fault)) before now = ⊥
+Ends request came (Err (Refused refusal)) before now = (came ≡ Err (folder.Refused refusal)) × (now ≡ before)
+Ends request came (Err ReadFault) before now = (came ≡ Err folder.ReadFault) × (now ≡ before)
+Ends request came ending before now =
+    (system : SystemParts) × (came ≡ Ok system) × Answers request system ending before now
 
 -- whether a read failed, and whether the write of the answer did
 abbrev pub is_shelf_failure : Ending → Bool
@@ -152,13 +152,13 @@ abbrev pub says_written : Status → Bool
 says_written status.Done = true
 says_written ends = says_write_fault ends
 
--- a line has run: the tables of its folder were read up to the first that ends the reading, the run ended as these
--- tables and the command have it, and that was told
+-- a line has run: the tables of its folder were read up to the first that ends the reading, or none where its system
+-- is made; the run ended as that system and the command have it, and that was told
 pub record HasRun (contents : Option Tables) (line : LineParts) (ends : Status) (reads reads' : List Reading) (counts counts' : ShelfCounts) (held held' : Option (List ℕ)) (said said' : Option (List ℕ)) (faults faults' : ℕ) : Type 0 where
   pub tables : Result TableBytes FolderError
   pub ending : Ending
-  pub read : HasRead contents line.place no_tables table_order tables reads reads' counts counts'
-  pub ended : Ends (request_of line) tables ending held held'
+  pub read : HasRead contents line.place no_tables (tables_read (made_number line)) tables reads reads' counts counts'
+  pub ended : Ends (request_of line) (system_outcome (made_number line) tables) ending held held'
   pub told : Tells ending ends said said' faults faults'
 
 -- memory wasn't found before anything was read
@@ -177,7 +177,7 @@ MayRun contents line ends reads reads' counts counts' held held' said said' faul
 -- a line has run on the stored tables of its folder, unless a read of them failed
 pub record RunsOn (stored : Tables) (line : LineParts) (ends : Status) (held held' : Option (List ℕ)) (said said' : Option (List ℕ)) (faults faults' : ℕ) : Type 0 where
   pub ending : Ending
-  pub ended : (ending ≡ Err ReadFault) ⊎ Ends (request_of line) (stored_tables stored line.place) ending held held'
+  pub ended : (ending ≡ Err ReadFault) ⊎ Ends (request_of line) (stored_outcome stored line) ending held held'
   pub told : Tells ending ends said said' faults faults'
 
 -- words have given this line, or their first fault, or memory wasn't found

@@ -134,18 +134,9 @@ stored_from stored folder (table ∷ order) tables =
 unfoldable pub stored_tables : Tables → List ℕ → Result TableBytes FolderError
 stored_tables stored folder = stored_from stored folder table_order no_tables
 
--- the stored tables of a folder spell this system
-abbrev pub FolderSpells : Tables → List ℕ → SystemParts → Type 0
-FolderSpells stored folder system = folder_outcome (stored_tables stored folder) ≡ Ok system
-
--- the stored tables of a folder are refused for this reason: the first of them in their order that is missing or too
--- long, or else their first fault
-abbrev pub IsRefused : Tables → List ℕ → Refusal → Type 0
-IsRefused stored folder refusal = folder_outcome (stored_tables stored folder) ≡ Err (Refused refusal)
-
--- the reads of a folder came to these tables or an error, and they came to this
-abbrev pub ComesTo : Result TableBytes FolderError → Result SystemParts FolderError → Type 0
-ComesTo tables outcome = (outcome ≡ folder_outcome tables) ⊎ (outcome ≡ Err OutOfMemory)
+-- a result is this outcome, or memory wasn't found
+abbrev pub ComesTo : Result SystemParts FolderError → Result SystemParts FolderError → Type 0
+ComesTo outcome result = (result ≡ outcome) ⊎ (result ≡ Err OutOfMemory)
 
 -- whether a read failed
 abbrev pub is_read_failure : {T : Type 0} → Result T FolderError → Bool

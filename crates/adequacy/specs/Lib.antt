@@ -9,6 +9,7 @@ pub mod OptionTable
 pub mod OptionWords
 pub mod Parse
 pub mod Requests
+pub mod Sources
 pub mod StudyText
 pub mod Traces
 pub mod WordFaultText

@@ -42,8 +42,8 @@ pub(crate) fn make_answer(
     }
 }
 
-// The line of a check.
-fn make_check_text(alloc: Global, system: &System) -> Result<Text, OutOfMemory>
+/// The line of a check.
+pub(crate) fn make_check_text(alloc: Global, system: &System) -> Result<Text, OutOfMemory>
     ensures { IfOk result (λ text. text ≡ check_text system.now) }
 {
     let peak = NetLoad::new(alloc, system)?.peak();
@@ -106,7 +106,8 @@ pub(crate) fn is_built(command: Command) -> bool
     ensures { result ≡ built command }
 {
     match command {
-        Command::Check | Command::Table | Command::Index | Command::Credit | Command::Study => true,
-        Command::Trace | Command::Trial | Command::Console => false,
+        Command::Check | Command::Table | Command::Index | Command::Credit => true,
+        Command::Study | Command::Trial => true,
+        Command::Trace | Command::Console => false,
     }
 }

@@ -3,6 +3,7 @@
 
 mod commands;
 mod endings;
+mod sources;
 mod studies;
 mod tables;
 mod top;

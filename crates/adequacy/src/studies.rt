@@ -1,10 +1,12 @@
 //! The answer to a study: its samples are simulated by workers, and the text of their totals is written.
-ghost use Rattle.std.specs.Prelude.{◌≡◌, All, IfOk, length};
+ghost use Rattle.std.specs.Prelude.{◌≡◌, ◌++◌, ℕ, All, IfOk, List, length};
+ghost use Rattle.adequacy.specs.Commands.{check_text};
 ghost use Rattle.adequacy.specs.LineParts.{LineParts};
 ghost use Rattle.adequacy.specs.Requests.{AreStudyTerms};
 ghost use Rattle.adequacy.specs.StudyText.{IsStudyText, HasStudied, work_of};
 ghost use Rattle.sample_run.specs.SampleWorks.{IsWorkOf};
 
+use crate::commands::make_check_text;
 use crate::words::StudyTerms;
 use campaign_workers::study;
 use ra_base::{OutOfMemory, Pause, Text};
@@ -30,6 +32,25 @@ pub(crate) fn make_study_text<T: Threads + Wait + Sync, P: Pause + Sync>(
 {
     let totals = study_totals(rt, alloc, system, terms, pause)?;
     let mut text = Text::new(alloc);
+    put_totals(&mut text, system, &totals)?;
+    Ok(text)
+}
+
+/// The text of a trial: the line of a check of its system, and then the text of a study of it. It may wait for
+/// its workers.
+pub(crate) fn make_trial_text<T: Threads + Wait + Sync, P: Pause + Sync>(
+    rt: &T,
+    alloc: Global,
+    system: &System,
+    terms: StudyTerms,
+    pause: &P,
+) -> Result<Text, OutOfMemory>
+    requires terms { (line : LineParts) × AreStudyTerms line terms }
+    ensures { IfOk result (λ text. (totals : List ℕ) × IsStudyText system.now terms totals
+        × (text ≡ check_text system.now ++ totals)) }
+{
+    let mut text = make_check_text(alloc, system)?;
+    let totals = study_totals(rt, alloc, system, terms, pause)?;
     put_totals(&mut text, system, &totals)?;
     Ok(text)
 }

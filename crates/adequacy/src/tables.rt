@@ -3,7 +3,7 @@ ghost use Rattle.std.specs.Prelude.{◌≡◌, Ok, Result};
 ghost use Rattle.ra_base.specs.Causes.{Counts};
 ghost use Rattle.ra_base.specs.declared.table.TableBytes.{TableBytes};
 ghost use Rattle.adequacy.specs.declared.tables.FolderError.{FolderError};
-ghost use Rattle.adequacy.specs.Folder.{can_be_missing, read_outcome, no_tables, with_table, table_order, HasRead, ComesTo, is_read_failure};
+ghost use Rattle.adequacy.specs.Folder.{can_be_missing, folder_outcome, read_outcome, no_tables, with_table, table_order, HasRead, ComesTo, is_read_failure};
 
 use ra_base::{Shelf, ShelfError, TableBytes, TableName, Text};
 use std::alloc::Global;
@@ -51,7 +51,7 @@ pub(crate) fn read_folder<S: Shelf>(
     shelf: &mut S,
 ) -> Result<System, FolderError>
     ensures contents { S.contents shelf.new ≡ S.contents shelf.old }
-    ensures reads { (tables : Result TableBytes FolderError) × ComesTo tables result
+    ensures reads { (tables : Result TableBytes FolderError) × ComesTo (folder_outcome tables) result
         × HasRead (S.contents shelf.old) folder.now no_tables table_order tables
         (S.reads shelf.old) (S.reads shelf.new) (S.counts shelf.old) (S.counts shelf.new) }
     ensures faults { Counts (is_read_failure result) (S.counts shelf.old).faults (S.counts shelf.new).faults }

@@ -5,12 +5,13 @@ ghost use Rattle.ra_base.specs.Causes.{Counts, Rose};
 ghost use Rattle.ra_base.specs.Outside.{Tables};
 ghost use Rattle.ra_base.specs.declared.table.TableBytes.{TableBytes};
 ghost use Rattle.system_model.specs.System.{SystemParts};
-ghost use Rattle.adequacy.specs.CommandWords.{is_campaign};
+ghost use Rattle.adequacy.specs.CommandWords.{is_campaign, is_trial};
 ghost use Rattle.adequacy.specs.Commands.{asked_line, can_answer, waits, is_built as built};
 ghost use Rattle.adequacy.specs.Endings.{Answers, AnswerGained, Ends, Reports, Tells, HasRun, MayRun, IsAsked, RunsOn, is_shelf_failure, is_sink_failure, may_have_written, says_read_fault, says_write_fault, says_written};
-ghost use Rattle.adequacy.specs.Folder.{no_tables, table_order, HasRead, FolderSpells, IsRefused};
+ghost use Rattle.adequacy.specs.Folder.{no_tables, HasRead};
 ghost use Rattle.adequacy.specs.LineParts.{LineParts};
 ghost use Rattle.adequacy.specs.Requests.{IsRequestOf, request_of};
+ghost use Rattle.adequacy.specs.Sources.{made_number, system_outcome, tables_read, IsRefused, RunsFor};
 ghost use Rattle.adequacy.specs.declared.endings.Failure.{Failure};
 ghost use Rattle.adequacy.specs.declared.tables.FolderError.{FolderError};
 ghost use Rattle.adequacy.specs.declared.tables.Refusal.{Refusal};
@@ -18,7 +19,7 @@ ghost use Rattle.adequacy.specs.declared.words.fault.WordFault.{WordFault};
 
 use crate::commands::{is_built, make_answer};
 use crate::endings::{Failure, folder_failure, report, words_failure};
-use crate::tables::read_folder;
+use crate::sources::find_system;
 use crate::waiting::run_waiting;
 use crate::words::{Line, Request, WordFault, read_words};
 use crate::writing::write_text;
@@ -33,8 +34,9 @@ use system_model::System;
 /// The words name a command, a folder and the command's options: `check FOLDER` tells how large the folder's
 /// system is, `table FOLDER` gives its capacity outage table, `index FOLDER` its LOLE and EUE,
 /// `credit FOLDER --kind K --measure M ..` brackets what a new unit is worth, and
-/// `study FOLDER --samples N ..` simulates so many samples. The answer goes to `out`; where there is none,
-/// one line on `err` says why.
+/// `study FOLDER --samples N ..` simulates so many samples, and `trial NUMBER --samples N ..` does so on a large
+/// system that is made from the number. The answer goes to `out`; where there is none, one line on `err` says
+/// why.
 pub fn adequacy<T: Threads + Wait + Sync, S: Shelf, O: Sink, E: Sink, P: Pause + Sync>(
     rt: &T,
     alloc: Global,
@@ -61,6 +63,10 @@ pub fn adequacy<T: Threads + Wait + Sync, S: Shelf, O: Sink, E: Sink, P: Pause +
     ensures unwritten { says_written result ≡ false → out.new ≡ out.old }
     ensures done { result ≡ Status.Done → err.new ≡ err.old }
 
+    // A trial reads no table.
+    ensures unread { (line : LineParts) → asked_line (map string_bytes words.now) ≡ Ok line →
+        is_trial line.command ≡ true → shelf.new ≡ shelf.old }
+
     // A line runs on what this call's reads answered, whether the shelf tells its contents or not.
     ensures run { (line : LineParts) → asked_line (map string_bytes words.now) ≡ Ok line →
         MayRun (S.contents shelf.old) line result (S.reads shelf.old) (S.reads shelf.new)
@@ -76,7 +82,7 @@ pub fn adequacy<T: Threads + Wait + Sync, S: Shelf, O: Sink, E: Sink, P: Pause +
     // So stored tables that spell a system are answered where no fault was counted, or memory wasn't found;
     ensures answered { (line : LineParts) (stored : Tables) (system : SystemParts) →
         asked_line (map string_bytes words.now) ≡ Ok line → S.contents shelf.old ≡ Some stored →
-        FolderSpells stored line.place system →
+        RunsFor stored line system →
         ¬ Rose (S.counts shelf.old).faults (S.counts shelf.new).faults →
         ¬ Rose (O.faults out.old) (O.faults out.new) →
         ((result ≡ Status.Done)
@@ -86,7 +92,7 @@ pub fn adequacy<T: Threads + Wait + Sync, S: Shelf, O: Sink, E: Sink, P: Pause +
     // and stored tables that are refused are refused for that reason, which `err` has then gained.
     ensures refused { (line : LineParts) (stored : Tables) (refusal : Refusal) →
         asked_line (map string_bytes words.now) ≡ Ok line → S.contents shelf.old ≡ Some stored →
-        IsRefused stored line.place refusal →
+        IsRefused stored line refusal →
         ¬ Rose (S.counts shelf.old).faults (S.counts shelf.new).faults →
         Tells (Err (Failure.Refused refusal)) result (E.held err.old) (E.held err.new)
         (E.faults err.old) (E.faults err.new)
@@ -131,6 +137,7 @@ fn run_line<T: Threads + Wait + Sync, S: Shelf, O: Sink, E: Sink, P: Pause + Syn
     ensures unwritten { says_written result ≡ false → out.new ≡ out.old }
     ensures done { result ≡ Status.Done → err.new ≡ err.old }
     ensures words { result ≡ Status.Words → ⊥ }
+    ensures unread { is_trial line.now.command ≡ true → shelf.new ≡ shelf.old }
     ensures run { HasRun (S.contents shelf.old) line.now
         result (S.reads shelf.old) (S.reads shelf.new) (S.counts shelf.old) (S.counts shelf.new)
         (O.held out.old) (O.held out.new) (E.held err.old) (E.held err.new)
@@ -182,15 +189,16 @@ fn run<S: Shelf, O: Sink>(
     requires waits { is_campaign line.now.command ≡ false }
     ensures contents { S.contents shelf.new ≡ S.contents shelf.old }
     ensures reads { (tables : Result TableBytes FolderError)
-        × HasRead (S.contents shelf.old) line.now.place no_tables table_order tables
+        × HasRead (S.contents shelf.old) line.now.place no_tables (tables_read (made_number line.now)) tables
         (S.reads shelf.old) (S.reads shelf.new) (S.counts shelf.old) (S.counts shelf.new)
-        × Ends (request_of line.now) tables result (O.held out.old) (O.held out.new) }
+        × Ends (request_of line.now) (system_outcome (made_number line.now) tables)
+        result (O.held out.old) (O.held out.new) }
     ensures read_faults { Counts (is_shelf_failure result)
         (S.counts shelf.old).faults (S.counts shelf.new).faults }
     ensures write_faults { Counts (is_sink_failure result) (O.faults out.old) (O.faults out.new) }
     ensures unwritten { may_have_written result ≡ false → out.new ≡ out.old }
 {
-    match read_folder(alloc, line.place.text(), shelf) {
+    match find_system(alloc, line, shelf) {
         Ok(system) => write_answer(alloc, &system, line.request(), out),
         Err(error) => Err(folder_failure(error)),
     }
@@ -221,3 +229,5 @@ fn write_answer<O: Sink>(
 mod schedule_tests;
 #[cfg(test)]
 mod tests;
+#[cfg(test)]
+mod trial_tests;

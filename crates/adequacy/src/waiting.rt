@@ -2,18 +2,19 @@
 ghost use Rattle.std.specs.Prelude.{◌≡◌, Result, IfOk, false, true};
 ghost use Rattle.ra_base.specs.Causes.{Counts};
 ghost use Rattle.ra_base.specs.declared.table.TableBytes.{TableBytes};
-ghost use Rattle.adequacy.specs.CommandWords.{is_campaign};
+ghost use Rattle.adequacy.specs.CommandWords.{is_campaign, is_trial};
 ghost use Rattle.adequacy.specs.Commands.{IsAnswer, can_answer, waits, is_built as built};
 ghost use Rattle.adequacy.specs.Endings.{Answers, Ends, HasRun, is_shelf_failure, is_sink_failure, may_have_written, says_read_fault, says_write_fault, says_written};
-ghost use Rattle.adequacy.specs.Folder.{no_tables, table_order, HasRead};
+ghost use Rattle.adequacy.specs.Folder.{no_tables, HasRead};
 ghost use Rattle.adequacy.specs.LineParts.{LineParts};
 ghost use Rattle.adequacy.specs.Requests.{IsRequestOf, request_of};
+ghost use Rattle.adequacy.specs.Sources.{made_number, system_outcome, tables_read};
 ghost use Rattle.adequacy.specs.declared.tables.FolderError.{FolderError};
 ghost use Rattle.ra_base.specs.declared.status.Status.{Status};
 
 use crate::endings::{Failure, folder_failure, report};
-use crate::studies::make_study_text;
-use crate::tables::read_folder;
+use crate::sources::find_system;
+use crate::studies::{make_study_text, make_trial_text};
 use crate::words::{Line, Request};
 use crate::writing::write_text;
 use ra_base::{OutOfMemory, Pause, Shelf, Sink, Status, Text};
@@ -41,6 +42,7 @@ pub(crate) fn run_waiting<T: Threads + Wait + Sync, S: Shelf, O: Sink, E: Sink, 
     ensures unwritten { says_written result ≡ false → out.new ≡ out.old }
     ensures done { result ≡ Status.Done → err.new ≡ err.old }
     ensures words { result ≡ Status.Words → ⊥ }
+    ensures unread { is_trial line.now.command ≡ true → shelf.new ≡ shelf.old }
     ensures run { HasRun (S.contents shelf.old) line.now
         result (S.reads shelf.old) (S.reads shelf.new) (S.counts shelf.old) (S.counts shelf.new)
         (O.held out.old) (O.held out.new) (E.held err.old) (E.held err.new)
@@ -65,15 +67,17 @@ fn run<T: Threads + Wait + Sync, S: Shelf, O: Sink, P: Pause + Sync>(
     requires waits { is_campaign line.now.command ≡ true }
     ensures contents { S.contents shelf.new ≡ S.contents shelf.old }
     ensures reads { (tables : Result TableBytes FolderError)
-        × HasRead (S.contents shelf.old) line.now.place no_tables table_order tables
+        × HasRead (S.contents shelf.old) line.now.place no_tables (tables_read (made_number line.now)) tables
         (S.reads shelf.old) (S.reads shelf.new) (S.counts shelf.old) (S.counts shelf.new)
-        × Ends (request_of line.now) tables result (O.held out.old) (O.held out.new) }
+        × Ends (request_of line.now) (system_outcome (made_number line.now) tables)
+        result (O.held out.old) (O.held out.new) }
+    ensures unread { is_trial line.now.command ≡ true → shelf.new ≡ shelf.old }
     ensures read_faults { Counts (is_shelf_failure result)
         (S.counts shelf.old).faults (S.counts shelf.new).faults }
     ensures write_faults { Counts (is_sink_failure result) (O.faults out.old) (O.faults out.new) }
     ensures unwritten { may_have_written result ≡ false → out.new ≡ out.old }
 {
-    match read_folder(alloc, line.place.text(), shelf) {
+    match find_system(alloc, line, shelf) {
         Ok(system) => answer(rt, alloc, &system, line.request(), out, pause),
         Err(error) => Err(folder_failure(error)),
     }
@@ -117,6 +121,7 @@ fn answer_text<T: Threads + Wait + Sync, P: Pause + Sync>(
 {
     match request {
         Request::Study(terms) => make_study_text(rt, alloc, system, terms, pause),
+        Request::Trial { terms, .. } => make_trial_text(rt, alloc, system, terms, pause),
         _ => unreachable!(),
     }
 }

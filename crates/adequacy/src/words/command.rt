@@ -1,6 +1,6 @@
 //! The commands of the program.
 ghost use Rattle.std.specs.Prelude.{◌≡◌};
-ghost use Rattle.adequacy.specs.CommandWords.{command_named, command_text, is_campaign};
+ghost use Rattle.adequacy.specs.CommandWords.{command_named, command_text, is_campaign, is_trial};
 
 /// What the program is asked to do.
 #[derive(Clone, Copy, Debug, PartialEq, Eq)]
@@ -55,6 +55,13 @@ impl Command {
             Command::Trial => b"trial",
             Command::Console => b"console",
         }
+    }
+
+    // Whether the command's system is made from a number.
+    pub(crate) fn is_trial(self) -> bool
+        ensures { result ≡ is_trial self }
+    {
+        matches!(self, Command::Trial)
     }
 
     // Whether the command runs a campaign of samples.
