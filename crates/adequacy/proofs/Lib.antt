@@ -1,6 +1,7 @@
 pub mod AskLemmas
 pub mod FolderLemmas
 pub mod FormLemmas
+pub mod LeavesLemmas
 pub mod ReportLemmas
 pub mod StoredLemmas
 pub mod StudyLemmas

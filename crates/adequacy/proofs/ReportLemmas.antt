@@ -1,20 +1,22 @@
 -- From how a line ended to what is told of it.
 use Rattle.std.proofs.Common.{ℕ, List, Option, Result, Err, inl, inr}
 use Rattle.ra_base.specs.declared.status.Status.{Status}
+use Rattle.sample_totals.specs.Recorders.{Seen}
 use Rattle.system_model.specs.System.{SystemParts}
 use Rattle.adequacy.specs.declared.endings.Failure.{Failure}
-use Rattle.adequacy.specs.declared.endings.Failure.TheVariants.{Words, Refused, ReadFault, WriteFault, OutOfMemory}
+use Rattle.adequacy.specs.declared.endings.Failure.TheVariants.{Words, Refused, ReadFault, WriteFault, RecorderRefused, OutOfMemory}
 use Rattle.adequacy.specs.declared.tables.FolderError.{FolderError}
 use Rattle.adequacy.specs.declared.words.request.Request.{Request}
 use Rattle.adequacy.specs.Endings.{Ending, Ends, Tells, Reports}
 
 -- what was told is an ending that the run may have had
-pub told_of : (request : Request) (came : Result SystemParts FolderError) (failure : Failure) (ends : Status) (held held' said said' : Option (List ℕ)) (faults faults' : ℕ)
-    → Ends request came (Err failure) held held' → Reports failure ends said said' faults faults'
-    → (ending : Ending) × Ends request came ending held held' × Tells ending ends said said' faults faults'
-told_of request came (Words fault) ends held held' said said' f f' ended told = absurd ended
-told_of request came ReadFault ends held held' said said' f f' ended told = (Err ReadFault, ended, told)
-told_of request came WriteFault ends held held' said said' f f' ended told = (Err WriteFault, ended, told)
-told_of request came OutOfMemory ends held held' said said' f f' ended told = (Err OutOfMemory, ended, told)
-told_of request came (Refused refusal) ends held held' said said' f f' ended (inl told) = (Err (Refused refusal), ended, told)
-told_of request came (Refused refusal) ends held held' said said' f f' ended (inr told) = (Err OutOfMemory, ended.1, told)
+pub told_of : (request : Request) (seen : List Seen) (came : Result SystemParts FolderError) (failure : Failure) (ends : Status) (held held' said said' : Option (List ℕ)) (faults faults' : ℕ)
+    → Ends request seen came (Err failure) held held' → Reports failure ends said said' faults faults'
+    → (ending : Ending) × Ends request seen came ending held held' × Tells ending ends said said' faults faults'
+told_of request seen came (Words fault) ends held held' said said' f f' ended told = absurd ended
+told_of request seen came ReadFault ends held held' said said' f f' ended told = (Err ReadFault, ended, told)
+told_of request seen came WriteFault ends held held' said said' f f' ended told = (Err WriteFault, ended, told)
+told_of request seen came RecorderRefused ends held held' said said' f f' ended told = (Err RecorderRefused, ended, told)
+told_of request seen came OutOfMemory ends held held' said said' f f' ended told = (Err OutOfMemory, ended, told)
+told_of request seen came (Refused refusal) ends held held' said said' f f' ended (inl told) = (Err (Refused refusal), ended, told)
+told_of request seen came (Refused refusal) ends held held' said said' f f' ended (inr told) = (Err OutOfMemory, ended.1, told)

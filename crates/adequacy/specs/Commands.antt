@@ -9,8 +9,10 @@ use Rattle.index_text.specs.CreditText.{bracket_text}
 use Rattle.index_text.specs.TableText.{table_text}
 use Rattle.index_text.specs.IndexText.{index_text}
 use Rattle.report_text.specs.CheckText.{check_line}
+use Rattle.sample_totals.specs.Recorders.{Seen}
 use Rattle.adequacy.specs.LineParts.{LineParts}
 use Rattle.adequacy.specs.StudyText.{IsStudyText}
+use Rattle.adequacy.specs.Traces.{IsTraceText}
 use Rattle.adequacy.specs.Words.{line_of}
 use Rattle.adequacy.specs.declared.words.command.Command.{Command}
 use Rattle.adequacy.specs.declared.words.command.Command.TheVariants as command
@@ -25,21 +27,22 @@ check_text system =
     let peak = peak_of (map net_hour_of system.hours) in
     check_line system peak.mw peak.hour
 
--- the bytes answer a request for a system; a credit's are the text of the one bracket of the unit's worth, whose ends
--- the exact indices certify, and a trial's are the line of a check and then those of a study
-abbrev pub IsAnswer : Request → SystemParts → List ℕ → Type 0
-IsAnswer Check system text = text ≡ check_text system
-IsAnswer Table system text = text ≡ table_text (pool_of system None).units
-IsAnswer Index system text = text ≡ index_text (pool_of system None)
-IsAnswer (Credit terms) system text =
+-- the bytes answer a request for a system, where recorders are seen so before; a credit's are the text of the one
+-- bracket of the unit's worth, whose ends the exact indices certify, and a trial's are the line of a check and then
+-- those of a study
+abbrev pub IsAnswer : Request → List Seen → SystemParts → List ℕ → Type 0
+IsAnswer Check seen system text = text ≡ check_text system
+IsAnswer Table seen system text = text ≡ table_text (pool_of system None).units
+IsAnswer Index seen system text = text ≡ index_text (pool_of system None)
+IsAnswer (Credit terms) seen system text =
     (bracket : Bracket) × IsBracket terms.kind terms.measure system terms.unit terms.most bracket
     × IsCertified terms.kind terms.measure system terms.unit bracket
     × (text ≡ bracket_text terms.kind terms.measure bracket)
-IsAnswer (Study terms) system text = IsStudyText system terms text
-IsAnswer (Trial number terms) system text =
+IsAnswer (Study terms) seen system text = IsStudyText system terms text
+IsAnswer (Trial number terms) seen system text =
     (totals : List ℕ) × IsStudyText system terms totals × (text ≡ check_text system ++ totals)
-IsAnswer (Trace terms) system text = ⊥
-IsAnswer (Console terms) system text = ⊥
+IsAnswer (Trace terms) seen system text = IsTraceText system terms seen text
+IsAnswer (Console terms) seen system text = ⊥
 
 -- whether a command is built
 abbrev pub is_built : Command → Bool
@@ -49,7 +52,7 @@ is_built command.Index = true
 is_built command.Credit = true
 is_built command.Study = true
 is_built command.Trial = true
-is_built command.Trace = false
+is_built command.Trace = true
 is_built command.Console = false
 
 -- whether a request is one whose workers are waited for
@@ -61,7 +64,6 @@ waits request = false
 
 -- whether a request is one of a command that is built
 abbrev pub can_answer : Request → Bool
-can_answer (Trace terms) = false
 can_answer (Console terms) = false
 can_answer request = true
 

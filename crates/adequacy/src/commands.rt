@@ -1,5 +1,5 @@
 //! What each command answers: the bytes of its text for a system.
-ghost use Rattle.std.specs.Prelude.{◌≡◌, ◌<◌, ◌≤◌, IfOk, None, true, false};
+ghost use Rattle.std.specs.Prelude.{◌≡◌, ◌<◌, ◌≤◌, [], IfOk, None, true, false};
 ghost use Rattle.ra_base.specs.declared.limits.TheConstants.{MOST_POOLED_MW};
 ghost use Rattle.analytic_index.specs.Pool.{IsNewUnit, pool_of};
 ghost use Rattle.adequacy.specs.declared.words.request.Request.{Request};
@@ -8,6 +8,7 @@ ghost use Rattle.index_text.specs.IndexText.{index_text};
 ghost use Rattle.adequacy.specs.Commands.{IsAnswer, check_text, can_answer, waits, is_built as built};
 ghost use Rattle.adequacy.specs.LineParts.{LineParts};
 ghost use Rattle.adequacy.specs.Requests.{IsRequestOf};
+ghost use Rattle.adequacy.specs.Traces.{trace_of};
 
 use crate::words::{Command, CreditTerms, Request};
 use analytic_index::Analysis;
@@ -21,7 +22,7 @@ use std::marker::Brand;
 use std::sync::ledger::{Blank, Ledger};
 use system_model::System;
 
-/// The bytes that answer a request for a system.
+/// The bytes that answer a request for a system, other than a trace.
 pub(crate) fn make_answer(
     alloc: Global,
     system: &System,
@@ -29,8 +30,9 @@ pub(crate) fn make_answer(
 ) -> Result<Text, OutOfMemory>
     requires built { can_answer request ≡ true }
     requires waits { waits request ≡ false }
+    requires other { trace_of request ≡ None }
     requires terms { (line : LineParts) × IsRequestOf line request }
-    ensures { IfOk result (IsAnswer request system.now) }
+    ensures { IfOk result (IsAnswer request [] system.now) }
 {
     match request {
         Request::Check => make_check_text(alloc, system),
@@ -84,7 +86,7 @@ fn make_credit_text<L: Ledger>(
     requires some { 0 < blank.parts }
     requires unit { IsNewUnit terms.unit }
     requires most { terms.most ≤ MOST_POOLED_MW }
-    ensures { IfOk result (IsAnswer (Request.Credit terms) system.now) }
+    ensures { IfOk result (IsAnswer (Request.Credit terms) [] system.now) }
 {
     let mut steps = Steps::<L>::open(blank);
     let bracket = credit(
@@ -107,7 +109,7 @@ pub(crate) fn is_built(command: Command) -> bool
 {
     match command {
         Command::Check | Command::Table | Command::Index | Command::Credit => true,
-        Command::Study | Command::Trial => true,
-        Command::Trace | Command::Console => false,
+        Command::Trace | Command::Study | Command::Trial => true,
+        Command::Console => false,
     }
 }

@@ -1,5 +1,5 @@
 //! The top call: from the words of the command line to the bytes of the answer.
-ghost use Rattle.std.specs.Prelude.{◌≡◌, ◌⊎◌, Some, Ok, Err, IfOk, Result, map, true, false};
+ghost use Rattle.std.specs.Prelude.{◌≡◌, ◌⊎◌, [], Some, Ok, Err, IfOk, Result, map, true, false};
 ghost use Rattle.std.specs.String.{string_bytes};
 ghost use Rattle.ra_base.specs.Causes.{Counts, Rose};
 ghost use Rattle.ra_base.specs.Outside.{Tables};
@@ -7,11 +7,12 @@ ghost use Rattle.ra_base.specs.declared.table.TableBytes.{TableBytes};
 ghost use Rattle.system_model.specs.System.{SystemParts};
 ghost use Rattle.adequacy.specs.CommandWords.{is_campaign, is_trial};
 ghost use Rattle.adequacy.specs.Commands.{asked_line, can_answer, waits, is_built as built};
-ghost use Rattle.adequacy.specs.Endings.{Answers, AnswerGained, Ends, Reports, Tells, HasRun, MayRun, IsAsked, RunsOn, is_shelf_failure, is_sink_failure, may_have_written, says_read_fault, says_write_fault, says_written};
+ghost use Rattle.adequacy.specs.Endings.{Answers, AnswerGained, Ends, Reports, Tells, HasRun, HasText, MayRun, IsAsked, RunsOn, ending_status, is_shelf_failure, is_sink_failure, may_have_written, says_read_fault, says_write_fault, says_written};
 ghost use Rattle.adequacy.specs.Folder.{no_tables, HasRead};
 ghost use Rattle.adequacy.specs.LineParts.{LineParts};
 ghost use Rattle.adequacy.specs.Requests.{IsRequestOf, request_of};
 ghost use Rattle.adequacy.specs.Sources.{made_number, system_outcome, tables_read, IsRefused, RunsFor};
+ghost use Rattle.adequacy.specs.Traces.{Leaves};
 ghost use Rattle.adequacy.specs.declared.endings.Failure.{Failure};
 ghost use Rattle.adequacy.specs.declared.tables.FolderError.{FolderError};
 ghost use Rattle.adequacy.specs.declared.tables.Refusal.{Refusal};
@@ -20,10 +21,12 @@ ghost use Rattle.adequacy.specs.declared.words.fault.WordFault.{WordFault};
 use crate::commands::{is_built, make_answer};
 use crate::endings::{Failure, folder_failure, report, words_failure};
 use crate::sources::find_system;
+use crate::traces::{TextError, make_trace_text};
 use crate::waiting::run_waiting;
 use crate::words::{Line, Request, WordFault, read_words};
 use crate::writing::write_text;
-use ra_base::{Pause, Shelf, Sink, Status};
+use ra_base::{OutOfMemory, Pause, Shelf, Sink, Status, Text};
+use sample_totals::Recorder;
 use std::alloc::Global;
 use std::sync::Wait;
 use std::thread::Threads;
@@ -33,11 +36,19 @@ use system_model::System;
 ///
 /// The words name a command, a folder and the command's options: `check FOLDER` tells how large the folder's
 /// system is, `table FOLDER` gives its capacity outage table, `index FOLDER` its LOLE and EUE,
-/// `credit FOLDER --kind K --measure M ..` brackets what a new unit is worth, and
-/// `study FOLDER --samples N ..` simulates so many samples, and `trial NUMBER --samples N ..` does so on a large
-/// system that is made from the number. The answer goes to `out`; where there is none, one line on `err` says
-/// why.
-pub fn adequacy<T: Threads + Wait + Sync, S: Shelf, O: Sink, E: Sink, P: Pause + Sync>(
+/// `credit FOLDER --kind K --measure M ..` brackets what a new unit is worth,
+/// `study FOLDER --samples N ..` simulates so many samples, `trial NUMBER --samples N ..` does so on a large
+/// system that is made from the number, and `trace FOLDER --sample K ..` gives the hours of one sample to
+/// recorders and writes their texts. A trace first drops the recorders whose kind isn't chosen; no other command
+/// touches any. The answer goes to `out`; where there is none, one line on `err` says why.
+pub fn adequacy<
+    T: Threads + Wait + Sync,
+    S: Shelf,
+    O: Sink,
+    E: Sink,
+    P: Pause + Sync,
+    R: Recorder,
+>(
     rt: &T,
     alloc: Global,
     words: &[String],
@@ -45,11 +56,12 @@ pub fn adequacy<T: Threads + Wait + Sync, S: Shelf, O: Sink, E: Sink, P: Pause +
     out: &mut O,
     err: &mut E,
     pause: &P,
+    recorders: &mut Vec<R>,
 ) -> Status
     // Words that spell no line are refused by their first fault, or memory wasn't found, and nothing is
     // touched but `err`. No other words are refused.
     ensures words { (fault : WordFault) → asked_line (map string_bytes words.now) ≡ Err fault →
-        (shelf.new ≡ shelf.old) × (out.new ≡ out.old) ×
+        (shelf.new ≡ shelf.old) × (out.new ≡ out.old) × (recorders.new ≡ recorders.old) ×
         Reports (Failure.Words fault) result (E.held err.old) (E.held err.new)
         (E.faults err.old) (E.faults err.new) }
     ensures refused_words { result ≡ Status.Words →
@@ -69,24 +81,28 @@ pub fn adequacy<T: Threads + Wait + Sync, S: Shelf, O: Sink, E: Sink, P: Pause +
 
     // A line runs on what this call's reads answered, whether the shelf tells its contents or not.
     ensures run { (line : LineParts) → asked_line (map string_bytes words.now) ≡ Ok line →
-        MayRun (S.contents shelf.old) line result (S.reads shelf.old) (S.reads shelf.new)
-        (S.counts shelf.old) (S.counts shelf.new) (O.held out.old) (O.held out.new)
-        (E.held err.old) (E.held err.new) (E.faults err.old) (E.faults err.new) }
+        MayRun (S.contents shelf.old) line (map R.seen recorders.old.items) result
+        (S.reads shelf.old) (S.reads shelf.new) (S.counts shelf.old) (S.counts shelf.new)
+        (O.held out.old) (O.held out.new) (E.held err.old) (E.held err.new)
+        (E.faults err.old) (E.faults err.new) }
 
     // Where the shelf tells its contents, the run is that of the stored tables, or a read failed.
     ensures told { (line : LineParts) (stored : Tables) → asked_line (map string_bytes words.now) ≡ Ok line
         → S.contents shelf.old ≡ Some stored
-        → RunsOn stored line result (O.held out.old) (O.held out.new)
+        → RunsOn stored line (map R.seen recorders.old.items) result (O.held out.old) (O.held out.new)
         (E.held err.old) (E.held err.new) (E.faults err.old) (E.faults err.new) }
 
-    // So stored tables that spell a system are answered where no fault was counted, or memory wasn't found;
+    // So stored tables that spell a system are answered where no fault and no refusal was counted, or memory
+    // wasn't found;
     ensures answered { (line : LineParts) (stored : Tables) (system : SystemParts) →
         asked_line (map string_bytes words.now) ≡ Ok line → S.contents shelf.old ≡ Some stored →
         RunsFor stored line system →
         ¬ Rose (S.counts shelf.old).faults (S.counts shelf.new).faults →
         ¬ Rose (O.faults out.old) (O.faults out.new) →
-        ((result ≡ Status.Done)
-        × AnswerGained (request_of line) system (O.held out.old) (O.held out.new))
+        ¬ Leaves R.seen R.refusals (request_of line) Status.RecorderRefused
+        recorders.old.items recorders.new.items →
+        ((result ≡ Status.Done) × AnswerGained (request_of line) (map R.seen recorders.old.items) system
+        (O.held out.old) (O.held out.new))
         ⊎ (result ≡ Status.OutOfMemory) }
 
     // and stored tables that are refused are refused for that reason, which `err` has then gained.
@@ -97,9 +113,14 @@ pub fn adequacy<T: Threads + Wait + Sync, S: Shelf, O: Sink, E: Sink, P: Pause +
         Tells (Err (Failure.Refused refusal)) result (E.held err.old) (E.held err.new)
         (E.faults err.old) (E.faults err.new)
         ⊎ (result ≡ Status.OutOfMemory) }
+
+    // Only a trace touches recorders: it drops those that aren't chosen, and is refused only where one that it
+    // kept counted it.
+    ensures recorders { (line : LineParts) → asked_line (map string_bytes words.now) ≡ Ok line →
+        Leaves R.seen R.refusals (request_of line) result recorders.old.items recorders.new.items }
 {
     match ask(alloc, words) {
-        Ok(line) => run_line(rt, alloc, &line, shelf, out, err, pause),
+        Ok(line) => run_line(rt, alloc, &line, shelf, out, err, pause, recorders),
         Err(failure) => report(alloc, failure, err),
     }
 }
@@ -120,7 +141,14 @@ fn ask(alloc: Global, words: &[String]) -> Result<Line, Failure>
 }
 
 // Runs a line, and tells how it ended.
-fn run_line<T: Threads + Wait + Sync, S: Shelf, O: Sink, E: Sink, P: Pause + Sync>(
+fn run_line<
+    T: Threads + Wait + Sync,
+    S: Shelf,
+    O: Sink,
+    E: Sink,
+    P: Pause + Sync,
+    R: Recorder,
+>(
     rt: &T,
     alloc: Global,
     line: &Line,
@@ -128,6 +156,7 @@ fn run_line<T: Threads + Wait + Sync, S: Shelf, O: Sink, E: Sink, P: Pause + Syn
     out: &mut O,
     err: &mut E,
     pause: &P,
+    recorders: &mut Vec<R>,
 ) -> Status
     requires built { built line.now.command ≡ true }
     ensures contents { S.contents shelf.new ≡ S.contents shelf.old }
@@ -138,7 +167,9 @@ fn run_line<T: Threads + Wait + Sync, S: Shelf, O: Sink, E: Sink, P: Pause + Syn
     ensures done { result ≡ Status.Done → err.new ≡ err.old }
     ensures words { result ≡ Status.Words → ⊥ }
     ensures unread { is_trial line.now.command ≡ true → shelf.new ≡ shelf.old }
-    ensures run { HasRun (S.contents shelf.old) line.now
+    ensures recorders { Leaves R.seen R.refusals (request_of line.now) result
+        recorders.old.items recorders.new.items }
+    ensures run { HasRun (S.contents shelf.old) line.now (map R.seen recorders.old.items)
         result (S.reads shelf.old) (S.reads shelf.new) (S.counts shelf.old) (S.counts shelf.new)
         (O.held out.old) (O.held out.new) (E.held err.old) (E.held err.new)
         (E.faults err.old) (E.faults err.new) }
@@ -146,17 +177,18 @@ fn run_line<T: Threads + Wait + Sync, S: Shelf, O: Sink, E: Sink, P: Pause + Syn
     if line.waits() {
         run_waiting(rt, alloc, line, shelf, out, err, pause)
     } else {
-        answer(alloc, line, shelf, out, err)
+        answer(alloc, line, shelf, out, err, recorders)
     }
 }
 
 /// Answers a line of a command that waits for nobody, and gives the status. It always returns.
-pub fn answer<S: Shelf, O: Sink, E: Sink>(
+pub fn answer<S: Shelf, O: Sink, E: Sink, R: Recorder>(
     alloc: Global,
     line: &Line,
     shelf: &mut S,
     out: &mut O,
     err: &mut E,
+    recorders: &mut Vec<R>,
 ) -> Status
     requires built { built line.now.command ≡ true }
     requires waits { is_campaign line.now.command ≡ false }
@@ -167,23 +199,26 @@ pub fn answer<S: Shelf, O: Sink, E: Sink>(
     ensures unwritten { says_written result ≡ false → out.new ≡ out.old }
     ensures done { result ≡ Status.Done → err.new ≡ err.old }
     ensures words { result ≡ Status.Words → ⊥ }
-    ensures run { HasRun (S.contents shelf.old) line.now
+    ensures recorders { Leaves R.seen R.refusals (request_of line.now) result
+        recorders.old.items recorders.new.items }
+    ensures run { HasRun (S.contents shelf.old) line.now (map R.seen recorders.old.items)
         result (S.reads shelf.old) (S.reads shelf.new) (S.counts shelf.old) (S.counts shelf.new)
         (O.held out.old) (O.held out.new) (E.held err.old) (E.held err.new)
         (E.faults err.old) (E.faults err.new) }
 {
-    match run(alloc, line, shelf, out) {
+    match run(alloc, line, shelf, out, recorders) {
         Ok(()) => Status::Done,
         Err(failure) => report(alloc, failure, err),
     }
 }
 
 // Runs a line: reads the folder's tables and writes what answers the line's request for their system.
-fn run<S: Shelf, O: Sink>(
+fn run<S: Shelf, O: Sink, R: Recorder>(
     alloc: Global,
     line: &Line,
     shelf: &mut S,
     out: &mut O,
+    recorders: &mut Vec<R>,
 ) -> Result<(), Failure>
     requires built { built line.now.command ≡ true }
     requires waits { is_campaign line.now.command ≡ false }
@@ -191,38 +226,67 @@ fn run<S: Shelf, O: Sink>(
     ensures reads { (tables : Result TableBytes FolderError)
         × HasRead (S.contents shelf.old) line.now.place no_tables (tables_read (made_number line.now)) tables
         (S.reads shelf.old) (S.reads shelf.new) (S.counts shelf.old) (S.counts shelf.new)
-        × Ends (request_of line.now) (system_outcome (made_number line.now) tables)
-        result (O.held out.old) (O.held out.new) }
+        × Ends (request_of line.now) (map R.seen recorders.old.items)
+        (system_outcome (made_number line.now) tables) result (O.held out.old) (O.held out.new) }
     ensures read_faults { Counts (is_shelf_failure result)
         (S.counts shelf.old).faults (S.counts shelf.new).faults }
     ensures write_faults { Counts (is_sink_failure result) (O.faults out.old) (O.faults out.new) }
     ensures unwritten { may_have_written result ≡ false → out.new ≡ out.old }
+    ensures recorders { Leaves R.seen R.refusals (request_of line.now) (ending_status result)
+        recorders.old.items recorders.new.items }
 {
     match find_system(alloc, line, shelf) {
-        Ok(system) => write_answer(alloc, &system, line.request(), out),
+        Ok(system) => write_answer(alloc, &system, line.request(), out, recorders),
         Err(error) => Err(folder_failure(error)),
     }
 }
 
 // Writes what answers a request for a system, in one write.
-fn write_answer<O: Sink>(
+fn write_answer<O: Sink, R: Recorder>(
     alloc: Global,
     system: &System,
     request: Request,
     out: &mut O,
+    recorders: &mut Vec<R>,
 ) -> Result<(), Failure>
     requires built { can_answer request ≡ true }
     requires waits { waits request ≡ false }
     requires terms { (line : LineParts) × IsRequestOf line request }
-    ensures answer { Answers request system.now result (O.held out.old) (O.held out.new) }
+    ensures answer { Answers request (map R.seen recorders.old.items) system.now
+        result (O.held out.old) (O.held out.new) }
     ensures read_faults { is_shelf_failure result ≡ false }
     ensures write_faults { Counts (is_sink_failure result) (O.faults out.old) (O.faults out.new) }
     ensures unwritten { may_have_written result ≡ false → out.new ≡ out.old }
+    ensures recorders { Leaves R.seen R.refusals request (ending_status result)
+        recorders.old.items recorders.new.items }
 {
-    let Ok(text) = make_answer(alloc, system, request) else {
-        return Err(Failure::OutOfMemory);
-    };
-    write_text(&text, out)
+    match answer_text(alloc, system, request, recorders) {
+        Ok(text) => write_text(&text, out),
+        Err(TextError::Refused) => Err(Failure::RecorderRefused),
+        Err(TextError::OutOfMemory) => Err(Failure::OutOfMemory),
+    }
+}
+
+// The bytes that answer a request for a system.
+fn answer_text<R: Recorder>(
+    alloc: Global,
+    system: &System,
+    request: Request,
+    recorders: &mut Vec<R>,
+) -> Result<Text, TextError>
+    requires built { can_answer request ≡ true }
+    requires waits { waits request ≡ false }
+    requires terms { (line : LineParts) × IsRequestOf line request }
+    ensures { HasText R.seen R.refusals request system.now result
+        recorders.old.items recorders.new.items }
+{
+    match request {
+        Request::Trace(terms) => make_trace_text(alloc, system, terms, recorders),
+        _ => match make_answer(alloc, system, request) {
+            Ok(text) => Ok(text),
+            Err(OutOfMemory) => Err(TextError::OutOfMemory),
+        },
+    }
 }
 
 #[cfg(test)]

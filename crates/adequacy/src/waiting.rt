@@ -1,5 +1,5 @@
 //! Lines of the commands that wait for other threads: the samples of a study are run by its workers.
-ghost use Rattle.std.specs.Prelude.{◌≡◌, Result, IfOk, false, true};
+ghost use Rattle.std.specs.Prelude.{◌≡◌, [], Result, IfOk, false, true};
 ghost use Rattle.ra_base.specs.Causes.{Counts};
 ghost use Rattle.ra_base.specs.declared.table.TableBytes.{TableBytes};
 ghost use Rattle.adequacy.specs.CommandWords.{is_campaign, is_trial};
@@ -43,7 +43,7 @@ pub(crate) fn run_waiting<T: Threads + Wait + Sync, S: Shelf, O: Sink, E: Sink, 
     ensures done { result ≡ Status.Done → err.new ≡ err.old }
     ensures words { result ≡ Status.Words → ⊥ }
     ensures unread { is_trial line.now.command ≡ true → shelf.new ≡ shelf.old }
-    ensures run { HasRun (S.contents shelf.old) line.now
+    ensures run { HasRun (S.contents shelf.old) line.now []
         result (S.reads shelf.old) (S.reads shelf.new) (S.counts shelf.old) (S.counts shelf.new)
         (O.held out.old) (O.held out.new) (E.held err.old) (E.held err.new)
         (E.faults err.old) (E.faults err.new) }
@@ -69,7 +69,7 @@ fn run<T: Threads + Wait + Sync, S: Shelf, O: Sink, P: Pause + Sync>(
     ensures reads { (tables : Result TableBytes FolderError)
         × HasRead (S.contents shelf.old) line.now.place no_tables (tables_read (made_number line.now)) tables
         (S.reads shelf.old) (S.reads shelf.new) (S.counts shelf.old) (S.counts shelf.new)
-        × Ends (request_of line.now) (system_outcome (made_number line.now) tables)
+        × Ends (request_of line.now) [] (system_outcome (made_number line.now) tables)
         result (O.held out.old) (O.held out.new) }
     ensures unread { is_trial line.now.command ≡ true → shelf.new ≡ shelf.old }
     ensures read_faults { Counts (is_shelf_failure result)
@@ -95,7 +95,7 @@ fn answer<T: Threads + Wait + Sync, O: Sink, P: Pause + Sync>(
     requires built { can_answer request ≡ true }
     requires waits { waits request ≡ true }
     requires terms { (line : LineParts) × IsRequestOf line request }
-    ensures answer { Answers request system.now result (O.held out.old) (O.held out.new) }
+    ensures answer { Answers request [] system.now result (O.held out.old) (O.held out.new) }
     ensures read_faults { is_shelf_failure result ≡ false }
     ensures write_faults { Counts (is_sink_failure result) (O.faults out.old) (O.faults out.new) }
     ensures unwritten { may_have_written result ≡ false → out.new ≡ out.old }
@@ -117,7 +117,7 @@ fn answer_text<T: Threads + Wait + Sync, P: Pause + Sync>(
     requires built { can_answer request ≡ true }
     requires waits { waits request ≡ true }
     requires terms { (line : LineParts) × IsRequestOf line request }
-    ensures { IfOk result (IsAnswer request system.now) }
+    ensures { IfOk result (IsAnswer request [] system.now) }
 {
     match request {
         Request::Study(terms) => make_study_text(rt, alloc, system, terms, pause),

@@ -2,6 +2,7 @@ ghost use Rattle.std.specs.Prelude.{Some};
 
 use super::adequacy;
 use ra_base::{MemoryShelf, MemorySink, NoPause, Sink, SinkFault, Status, TableName};
+use sample_totals::Recorder;
 use std::alloc::Global;
 use std::test::Fail;
 
@@ -584,7 +585,17 @@ fn answers(rt: HostRuntime) -> Result<(), Fail> {
         let mut shelf = shelf_of(alloc, case.tables)?;
         let mut out = CountedSink::new(alloc, 1000)?;
         let mut err = CountedSink::new(alloc, 1000)?;
-        let status = adequacy(&rt, alloc, &words, &mut shelf, &mut out, &mut err, &NoPause);
+        let mut none: Vec<Box<dyn Recorder>> = Vec::new(alloc);
+        let status = adequacy(
+            &rt,
+            alloc,
+            &words,
+            &mut shelf,
+            &mut out,
+            &mut err,
+            &NoPause,
+            &mut none,
+        );
         assert_eq!(rt; status, case.status, "case {number}");
         assert!(rt; out.holds(case.out), "case {number}");
         assert!(rt; err.holds(case.err), "case {number}");
@@ -618,7 +629,17 @@ fn faults(rt: HostRuntime) -> Result<(), Fail> {
         }
         let mut out = MemorySink::new(alloc, capacity)?;
         let mut err = MemorySink::new(alloc, room)?;
-        let status = adequacy(&rt, alloc, &words, &mut shelf, &mut out, &mut err, &NoPause);
+        let mut none: Vec<Box<dyn Recorder>> = Vec::new(alloc);
+        let status = adequacy(
+            &rt,
+            alloc,
+            &words,
+            &mut shelf,
+            &mut out,
+            &mut err,
+            &NoPause,
+            &mut none,
+        );
         let (want, line, held) = if fails > 0 {
             (Status::ReadFault, "read fault\n", 0)
         } else if capacity < text.len() {

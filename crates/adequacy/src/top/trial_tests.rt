@@ -2,6 +2,7 @@
 
 use super::adequacy;
 use ra_base::{MemoryShelf, MemorySink, NoPause, Status, TableBytes, TableName, Text};
+use sample_totals::Recorder;
 use std::alloc::Global;
 use std::sync::Wait;
 use std::test::Fail;
@@ -13,6 +14,7 @@ const CHECK_OF_7: &str = "zones 3 units 96 interfaces 3 lines 5 storages 2 hours
 const CHECK_OF_20: &str = "zones 3 units 96 interfaces 3 lines 5 storages 2 hours 8784 capacity 7200 peak 6420 hour 180\n";
 
 // What these words come to.
+#[derive(Drop)]
 struct Told {
     status: Status,
     out: MemorySink,
@@ -30,7 +32,17 @@ fn tell<T: Threads + Wait + Sync>(
     }
     let mut out = MemorySink::new(alloc, 2_000_000)?;
     let mut err = MemorySink::new(alloc, 100)?;
-    let status = adequacy(rt, alloc, &list, shelf, &mut out, &mut err, &NoPause);
+    let mut none: Vec<Box<dyn Recorder>> = Vec::new(alloc);
+    let status = adequacy(
+        rt,
+        alloc,
+        &list,
+        shelf,
+        &mut out,
+        &mut err,
+        &NoPause,
+        &mut none,
+    );
     Ok(Told { status, out })
 }
 

@@ -1,11 +1,13 @@
 use Rattle.adequacy.specs.Requests.{request_of}
 use Rattle.adequacy.specs.Sources.{made_number, system_outcome}
+use Rattle.adequacy.specs.Traces.{trace_of}
+use Rattle.adequacy.proofs.LeavesLemmas.{left_told}
 use Rattle.adequacy.proofs.ReportLemmas.{told_of}
 use Rattle.adequacy.proofs.top.answer.Goals as goal
 
 pub returns-in-Err-clause-run : goal.returns-in-Err-clause-run
 returns-in-Err-clause-run g c =
-    let told = told_of (request_of c.args.line.now) (system_outcome (made_number c.args.line.now) c.in-Err.ensures.reads.0) c.in-Err.failure _ _ _ _ _ _ _ c.in-Err.ensures.reads.2 c.report.ensures in
+    let told = told_of (request_of c.args.line.now) _ (system_outcome (made_number c.args.line.now) c.in-Err.ensures.reads.0) c.in-Err.failure _ _ _ _ _ _ _ c.in-Err.ensures.reads.2 c.report.ensures in
     record {
       tables = c.in-Err.ensures.reads.0;
       ending = told.0;
@@ -13,3 +15,7 @@ returns-in-Err-clause-run g c =
       ended = told.1;
       told = told.2;
     }
+
+pub returns-in-Err-clause-recorders : goal.returns-in-Err-clause-recorders
+returns-in-Err-clause-recorders g c =
+    left_told g.R.Recorder.seen g.R.Recorder.refusals (trace_of (request_of c.args.line.now)) c.in-Err.failure _ _ _ _ _ _ _ c.in-Err.ensures.recorders c.report.ensures

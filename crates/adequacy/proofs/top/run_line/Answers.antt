@@ -1,0 +1,10 @@
+use Rattle.adequacy.proofs.LeavesLemmas.{waiting_left, waiting_run}
+use Rattle.adequacy.proofs.top.run_line.Goals as goal
+
+pub returns-then-waits-clause-recorders : goal.returns-then-waits-clause-recorders
+returns-then-waits-clause-recorders g c =
+    waiting_left g.R.Recorder.seen g.R.Recorder.refusals _ c.args.line.now _ _ _ _ _ _ _ _ _ _ _ _ (search) c.run_waiting.ensures.run
+
+pub returns-then-waits-clause-run : goal.returns-then-waits-clause-run
+returns-then-waits-clause-run g c =
+    waiting_run _ c.args.line.now _ _ _ _ _ _ _ _ _ _ _ _ (search) c.run_waiting.ensures.run
