@@ -196,7 +196,7 @@ other_ended : {R : Type 0} (see : R → Seen) (count : R → ℕ) (request : Req
     → LeavesBy see count None (ending_status ending) recorders recorders
 other_ended see count request came (Ok done) held held' recorders other ended = refl
 other_ended see count request came (Err WriteFault) held held' recorders other ended = refl
-other_ended see count request came (Err RecorderRefused) held held' recorders other (system, is, terms, asks, same) = absurd (cc)
+other_ended see count request came (Err RecorderRefused) held held' recorders other (system, is, (terms, asks, same)) = absurd (cc)
 other_ended see count request came (Err OutOfMemory) held held' recorders other ended = refl
 other_ended see count request came (Err (Words fault)) held held' recorders other ended = absurd ended
 other_ended see count request came (Err (Refused refusal)) held held' recorders other ended = refl

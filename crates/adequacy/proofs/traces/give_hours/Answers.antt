@@ -7,6 +7,6 @@ returns-in-Ok g c =
 
 pub returns-in-Err : goal.returns-in-Err
 returns-in-Err g c =
-    rw c.trace_failure.ensures
+    rw c.text_error.ensures
     (traced_part g.R.Recorder.seen g.R.Recorder.refusals _ _ _ c.in-Err.error _ _
     c.in-Err.ensures.err c.in-Err.ensures.err_place c.in-Err.ensures.err_counts)
