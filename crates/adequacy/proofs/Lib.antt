@@ -3,6 +3,7 @@ pub mod FolderLemmas
 pub mod FormLemmas
 pub mod LeavesLemmas
 pub mod ReportLemmas
+pub mod SourceLemmas
 pub mod StoredLemmas
 pub mod StudyLemmas
 pub mod TopLemmas
