@@ -1,5 +1,5 @@
 -- What each ending leaves of the recorders, and that only a trace looks at them.
-use Rattle.std.proofs.Common.{◌≡◌, ◌⊎◌, ℕ, Bool, true, List, [], Option, None, Some, Result, Ok, Err, refl, sym, ap, ◌∙◌, subst, inl, inr}
+use Rattle.std.proofs.Common.{◌≡◌, ◌⊎◌, ℕ, true, List, [], Option, None, Some, Result, Ok, Err, refl, sym, subst, inl, inr}
 use Rattle.ra_base.specs.Outside.{Tables}
 use Rattle.ra_base.specs.Reading.{Reading}
 use Rattle.ra_base.specs.declared.shelf_counts.ShelfCounts.{ShelfCounts}

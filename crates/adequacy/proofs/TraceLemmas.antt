@@ -1,5 +1,5 @@
 -- What a trace does to the recorders, over what is seen of them.
-use Rattle.std.proofs.Common.{◌≡◌, ◌⊎◌, ℕ, ◌<◌, zero, suc, Bool, true, false, List, [], ◌∷◌, ◌++◌, map, length, Option, Result, Ok, Err, cond, refl, sym, ap, ◌∙◌, subst, inl, inr, take, drop, arith}
+use Rattle.std.proofs.Common.{◌≡◌, ℕ, ◌<◌, zero, suc, Bool, true, false, List, [], ◌∷◌, ◌++◌, map, length, Option, Result, Ok, Err, cond, refl, sym, ap, ◌∙◌, subst, take, drop, arith}
 use Rattle.std.proofs.lemmas.List.{length-map, take-append-le, take_all}
 use Rattle.system_model.specs.System.{SystemParts}
 use Rattle.sample_totals.specs.declared.outcomes.HourOutcome.{HourOutcome}

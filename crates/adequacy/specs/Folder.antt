@@ -13,7 +13,6 @@ use Rattle.ra_base.specs.declared.table.TableBytes.{TableBytes}
 use Rattle.system_model.specs.System.{SystemParts}
 use Rattle.system_tables.specs.Tables.{system_of}
 use Rattle.system_tables.specs.declared.faults.TableFault.{TableFault}
-use Rattle.adequacy.specs.declared.tables.Refusal.{Refusal}
 use Rattle.adequacy.specs.declared.tables.Refusal.TheVariants.{Missing, TooLong, Fault}
 use Rattle.adequacy.specs.declared.tables.FolderError.{FolderError}
 use Rattle.adequacy.specs.declared.tables.FolderError.TheVariants.{Refused, ReadFault, OutOfMemory}

@@ -1,4 +1,4 @@
-use Rattle.std.proofs.Common.{◌≡◌, Ok, sym, ap, subst, ◌∙◌}
+use Rattle.std.proofs.Common.{Ok, sym, ap, subst, ◌∙◌}
 use Rattle.system_maker.specs.MadeSystem.{made_system}
 use Rattle.adequacy.specs.CommandWords.{is_trial}
 use Rattle.adequacy.specs.Folder.{ComesTo}

@@ -1,6 +1,5 @@
-use Rattle.std.proofs.Common.{refl}
 use Rattle.adequacy.specs.Traces.{trace_of}
-use Rattle.adequacy.proofs.LeavesLemmas.{left_written, refused_trace}
+use Rattle.adequacy.proofs.LeavesLemmas.{left_written}
 use Rattle.adequacy.proofs.top.write_answer.Goals as goal
 
 pub returns-in-Ok-clause-recorders : goal.returns-in-Ok-clause-recorders
