@@ -41,14 +41,7 @@ use system_model::System;
 /// system that is made from the number, and `trace FOLDER --sample K ..` gives the hours of one sample to
 /// recorders and writes their texts. A trace first drops the recorders whose kind isn't chosen; no other command
 /// touches any. The answer goes to `out`; where there is none, one line on `err` says why.
-pub fn adequacy<
-    T: Threads + Wait + Sync,
-    S: Shelf,
-    O: Sink,
-    E: Sink,
-    P: Pause + Sync,
-    R: Recorder,
->(
+pub fn adequacy<T: Threads + Wait + Sync, S: Shelf, O: Sink, E: Sink, P: Pause + Sync, R: Recorder>(
     rt: &T,
     alloc: Global,
     words: &[String],
@@ -141,14 +134,7 @@ fn ask(alloc: Global, words: &[String]) -> Result<Line, Failure>
 }
 
 // Runs a line, and tells how it ended.
-fn run_line<
-    T: Threads + Wait + Sync,
-    S: Shelf,
-    O: Sink,
-    E: Sink,
-    P: Pause + Sync,
-    R: Recorder,
->(
+fn run_line<T: Threads + Wait + Sync, S: Shelf, O: Sink, E: Sink, P: Pause + Sync, R: Recorder>(
     rt: &T,
     alloc: Global,
     line: &Line,

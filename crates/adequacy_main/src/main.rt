@@ -6,9 +6,14 @@ mod std_sink;
 
 use adequacy::{Unread, report_unread};
 use folder_shelf::FolderShelf;
-use ra_base::NoPause;
+use ra_base::{NoPause, Sink, Status};
+use result_recorders::{BindingCut, Plain, Shortfall, StorageLevel};
+use sample_totals::Recorder;
+use std::alloc::Global;
 use std::process::ExitCode;
-use std::rt::Env;
+use std::rt::{Env, Files};
+use std::sync::Wait;
+use std::thread::Threads;
 use std::{env, io};
 use std_sink::StdSink;
 
@@ -27,20 +32,44 @@ fn words_of<R: Env + AllocGlobal>(rt: &R) -> Result<Vec<String>, Unread> {
     }
 }
 
+/// A recorder in a box.
+fn boxed<R: Recorder>(alloc: Global, recorder: R) -> Result<Box<R>, Unread> {
+    Box::new(alloc, recorder).map_err(|_| Unread::OutOfMemory)
+}
+
+/// Runs the words of the command line, with one recorder of each kind, in the order of kinds.
+fn run<R: Threads + Wait + Sync + Env + Files + AllocGlobal, O: Sink, E: Sink>(
+    rt: &R,
+    out: &mut O,
+    err: &mut E,
+) -> Result<Status, Unread> {
+    let alloc = rt.alloc();
+    let words = words_of(rt)?;
+    let recorders: [Box<dyn Recorder>; 4] = [
+        boxed(alloc, Plain::new(alloc))?,
+        boxed(alloc, Shortfall::new(alloc))?,
+        boxed(alloc, StorageLevel::new(alloc))?,
+        boxed(alloc, BindingCut::new(alloc))?,
+    ];
+    let mut recorders = Vec::from_array(alloc, recorders).map_err(|_| Unread::OutOfMemory)?;
+    let mut shelf = FolderShelf::new(rt);
+    Ok(adequacy::adequacy(
+        rt,
+        alloc,
+        &words,
+        &mut shelf,
+        out,
+        err,
+        &NoPause,
+        &mut recorders,
+    ))
+}
+
 fn main(rt: HostRuntime) -> ExitCode {
     let mut out = StdSink::new(rt.stdout());
     let mut err = StdSink::new(rt.stderr());
-    let mut shelf = FolderShelf::new(&rt);
-    let status = match words_of(&rt) {
-        Ok(words) => adequacy::adequacy(
-            &rt,
-            rt.alloc(),
-            &words,
-            &mut shelf,
-            &mut out,
-            &mut err,
-            &NoPause,
-        ),
+    let status = match run(&rt, &mut out, &mut err) {
+        Ok(status) => status,
         Err(reason) => report_unread(reason, &mut err),
     };
     ExitCode::from(status.code())
@@ -48,3 +77,5 @@ fn main(rt: HostRuntime) -> ExitCode {
 
 #[cfg(test)]
 mod tests;
+#[cfg(test)]
+mod trace_tests;

@@ -55,14 +55,7 @@ fn workers_run_at_once_and_claim_their_shares(rt: HostRuntime) -> Result<(), Fai
     };
     let mut none: Vec<Box<dyn Recorder>> = Vec::new(alloc);
     let status = adequacy(
-        &rt,
-        alloc,
-        &words,
-        &mut shelf,
-        &mut out,
-        &mut err,
-        &pause,
-        &mut none,
+        &rt, alloc, &words, &mut shelf, &mut out, &mut err, &pause, &mut none,
     );
     assert_eq!(rt; status, Status::Done);
     assert_eq!(rt; pause.waited.load(Ordering::SeqCst), 0);

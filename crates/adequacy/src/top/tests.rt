@@ -587,14 +587,7 @@ fn answers(rt: HostRuntime) -> Result<(), Fail> {
         let mut err = CountedSink::new(alloc, 1000)?;
         let mut none: Vec<Box<dyn Recorder>> = Vec::new(alloc);
         let status = adequacy(
-            &rt,
-            alloc,
-            &words,
-            &mut shelf,
-            &mut out,
-            &mut err,
-            &NoPause,
-            &mut none,
+            &rt, alloc, &words, &mut shelf, &mut out, &mut err, &NoPause, &mut none,
         );
         assert_eq!(rt; status, case.status, "case {number}");
         assert!(rt; out.holds(case.out), "case {number}");
@@ -631,14 +624,7 @@ fn faults(rt: HostRuntime) -> Result<(), Fail> {
         let mut err = MemorySink::new(alloc, room)?;
         let mut none: Vec<Box<dyn Recorder>> = Vec::new(alloc);
         let status = adequacy(
-            &rt,
-            alloc,
-            &words,
-            &mut shelf,
-            &mut out,
-            &mut err,
-            &NoPause,
-            &mut none,
+            &rt, alloc, &words, &mut shelf, &mut out, &mut err, &NoPause, &mut none,
         );
         let (want, line, held) = if fails > 0 {
             (Status::ReadFault, "read fault\n", 0)

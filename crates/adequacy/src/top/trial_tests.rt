@@ -9,9 +9,11 @@ use std::test::Fail;
 use std::thread::Threads;
 use system_maker::make_tables;
 
-const CHECK_OF_7: &str = "zones 3 units 96 interfaces 3 lines 5 storages 2 hours 8784 capacity 7200 peak 6390 hour 828\nsamples 200\n";
+const CHECK_OF_7: &str =
+    "zones 3 units 96 interfaces 3 lines 5 storages 2 hours 8784 capacity 7200 peak 6390 hour 828\nsamples 200\n";
 
-const CHECK_OF_20: &str = "zones 3 units 96 interfaces 3 lines 5 storages 2 hours 8784 capacity 7200 peak 6420 hour 180\n";
+const CHECK_OF_20: &str =
+    "zones 3 units 96 interfaces 3 lines 5 storages 2 hours 8784 capacity 7200 peak 6420 hour 180\n";
 
 // What these words come to.
 #[derive(Drop)]
@@ -34,14 +36,7 @@ fn tell<T: Threads + Wait + Sync>(
     let mut err = MemorySink::new(alloc, 100)?;
     let mut none: Vec<Box<dyn Recorder>> = Vec::new(alloc);
     let status = adequacy(
-        rt,
-        alloc,
-        &list,
-        shelf,
-        &mut out,
-        &mut err,
-        &NoPause,
-        &mut none,
+        rt, alloc, &list, shelf, &mut out, &mut err, &NoPause, &mut none,
     );
     Ok(Told { status, out })
 }
@@ -52,7 +47,16 @@ fn workers_write_the_bytes_of_one(rt: HostRuntime) -> Result<(), Fail> {
     let alloc = rt.alloc();
     let mut shelf = MemoryShelf::new(alloc);
     let one = ["trial", "7", "--samples", "200", "--block", "7"];
-    let four = ["trial", "7", "--samples", "200", "--block", "7", "--workers", "4"];
+    let four = [
+        "trial",
+        "7",
+        "--samples",
+        "200",
+        "--block",
+        "7",
+        "--workers",
+        "4",
+    ];
     let alone = tell(&rt, alloc, &one, &mut shelf)?;
     let together = tell(&rt, alloc, &four, &mut shelf)?;
     assert_eq!(rt; alone.status, Status::Done);
@@ -90,10 +94,18 @@ fn a_planners_folder(rt: HostRuntime) -> Result<(), Fail> {
     let check = tell(&rt, alloc, &["check", "F"], &mut shelf)?;
     assert_eq!(rt; check.out.bytes(), CHECK_OF_20.as_bytes());
     let one = tell(&rt, alloc, &["study", "F", "--samples", "20"], &mut shelf)?;
-    let four = tell(&rt, alloc, &["study", "F", "--samples", "20", "--workers", "4"], &mut shelf)?;
+    let four = tell(
+        &rt,
+        alloc,
+        &["study", "F", "--samples", "20", "--workers", "4"],
+        &mut shelf,
+    )?;
     assert_eq!(rt; four.status, Status::Done);
     assert_eq!(rt; four.out.bytes(), one.out.bytes());
     let made = tell(&rt, alloc, &["trial", "20", "--samples", "20"], &mut shelf)?;
-    assert_eq!(rt; made.out.bytes().strip_prefix(CHECK_OF_20.as_bytes()), Some(one.out.bytes()));
+    assert_eq!(rt;
+        made.out.bytes().strip_prefix(CHECK_OF_20.as_bytes()),
+        Some(one.out.bytes())
+    );
     Ok(())
 }

@@ -13,8 +13,7 @@ make_answer-requires-clause-other g c = other_request _ c.in_default.not-Trace
 
 pub returns-in-Ok : goal.returns-in-Ok
 returns-in-Ok g c =
-    let other = other_request c.args.request c.in_default.not-Trace in
-    (
+    let other = other_request c.args.request c.in_default.not-Trace in (
       other_answer c.args.request _ _ _ other c.in-Ok.ensures,
       other_left g.R.Recorder.seen g.R.Recorder.refusals (trace_of c.args.request) _ other,
     )
