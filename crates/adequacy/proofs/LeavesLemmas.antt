@@ -7,7 +7,7 @@ use Rattle.ra_base.specs.declared.status.Status.{Status}
 use Rattle.ra_base.specs.declared.status.Status.TheVariants as status
 use Rattle.sample_totals.specs.Recorders.{Seen}
 use Rattle.system_model.specs.System.{SystemParts}
-use Rattle.adequacy.specs.CommandWords.{is_campaign}
+use Rattle.adequacy.specs.CommandWords.{is_campaign, is_console}
 use Rattle.adequacy.specs.Commands.{IsAnswer}
 use Rattle.adequacy.specs.Endings.{Ending, Answers, Ends, HasRun, HasText, IsAsked, IsWritten, Reports, Tells, ending_status, failure_of, failure_status}
 use Rattle.adequacy.specs.LineParts.{LineParts}
@@ -15,7 +15,7 @@ use Rattle.adequacy.specs.Requests.{request_by, request_of}
 use Rattle.adequacy.specs.Sources.{made_number, system_outcome}
 use Rattle.adequacy.specs.Traces.{IsTraced, Leaves, LeavesBy, trace_of}
 use Rattle.adequacy.specs.declared.endings.Failure.{Failure}
-use Rattle.adequacy.specs.declared.endings.Failure.TheVariants.{Words, Refused, ReadFault, WriteFault, RecorderRefused, OutOfMemory}
+use Rattle.adequacy.specs.declared.endings.Failure.TheVariants.{Words, Refused, ReadFault, WriteFault, RecorderRefused, Cancelled, OutOfMemory}
 use Rattle.adequacy.specs.declared.tables.FolderError.{FolderError}
 use Rattle.adequacy.specs.declared.tables.FolderError.TheVariants as folder
 use Rattle.adequacy.specs.declared.traces.TextError.{TextError}
@@ -55,6 +55,7 @@ left_written see count asked text (Err (Words fault)) held held' before now left
 left_written see count asked text (Err (Refused refusal)) held held' before now left written = absurd written
 left_written see count asked text (Err ReadFault) held held' before now left written = absurd written
 left_written see count asked text (Err RecorderRefused) held held' before now left written = absurd written
+left_written see count asked text (Err Cancelled) held held' before now left written = absurd written
 left_written see count asked text (Err OutOfMemory) held held' before now left written = absurd written
 
 -- a recorder refuses in a trace alone
@@ -86,6 +87,7 @@ left_told see count asked (Refused refusal) ends before now said said' f f' left
 left_told see count asked ReadFault ends before now said said' f f' left told = subst (λ (s : Status). LeavesBy see count asked s before now) (sym told.0) left
 left_told see count asked WriteFault ends before now said said' f f' left told = subst (λ (s : Status). LeavesBy see count asked s before now) (sym told.0) left
 left_told see count asked RecorderRefused ends before now said said' f f' left told = subst (λ (s : Status). LeavesBy see count asked s before now) (sym told.0) left
+left_told see count asked Cancelled ends before now said said' f f' left told = subst (λ (s : Status). LeavesBy see count asked s before now) (sym told.0) left
 left_told see count asked OutOfMemory ends before now said said' f f' left told = subst (λ (s : Status). LeavesBy see count asked s before now) (sym told.0) left
 
 -- words whose line is asked for failed for want of memory alone, and no recorder was touched
@@ -97,6 +99,7 @@ failed_left see count asked line (Refused refusal) ends recorders said said' f f
 failed_left see count asked line ReadFault ends recorders said said' f f' is asks told = absurd is
 failed_left see count asked line WriteFault ends recorders said said' f f' is asks told = absurd is
 failed_left see count asked line RecorderRefused ends recorders said said' f f' is asks told = absurd is
+failed_left see count asked line Cancelled ends recorders said said' f f' is asks told = absurd is
 failed_left see count asked line OutOfMemory ends recorders said said' f f' is asks told =
     subst (λ (s : Status). Leaves see count (request_of line) s recorders recorders) (sym told.0)
     (left_alone see count (trace_of (request_of line)) recorders recorders refl)
@@ -156,12 +159,14 @@ other_answers request seen system (Err OutOfMemory) held held' other answers = a
 other_answers request seen system (Err (Words fault)) held held' other answers = absurd answers
 other_answers request seen system (Err (Refused refusal)) held held' other answers = absurd answers
 other_answers request seen system (Err ReadFault) held held' other answers = absurd answers
+other_answers request seen system (Err Cancelled) held held' other answers = absurd answers
 
 other_ends : (request : Request) (seen : List Seen) (came : Result SystemParts FolderError) (ending : Ending) (held held' : Option (List ℕ))
     → trace_of request ≡ None → Ends request [] came ending held held' → Ends request seen came ending held held'
 other_ends request seen came (Ok done) held held' other (system, is, answers) = (system, is, other_answers request seen system (Ok done) held held' other answers)
 other_ends request seen came (Err WriteFault) held held' other (system, is, answers) = (system, is, other_answers request seen system (Err WriteFault) held held' other answers)
 other_ends request seen came (Err RecorderRefused) held held' other (system, is, answers) = (system, is, answers)
+other_ends request seen came (Err Cancelled) held held' other (system, is, answers) = absurd answers
 other_ends request seen came (Err OutOfMemory) held held' other ended = ended
 other_ends request seen came (Err (Words fault)) held held' other ended = absurd ended
 other_ends request seen came (Err (Refused refusal)) held held' other ended = ended
@@ -197,6 +202,7 @@ other_ended : {R : Type 0} (see : R → Seen) (count : R → ℕ) (request : Req
 other_ended see count request came (Ok done) held held' recorders other ended = refl
 other_ended see count request came (Err WriteFault) held held' recorders other ended = refl
 other_ended see count request came (Err RecorderRefused) held held' recorders other (system, is, (terms, asks, same)) = absurd (cc)
+other_ended see count request came (Err Cancelled) held held' recorders other ended = refl
 other_ended see count request came (Err OutOfMemory) held held' recorders other ended = refl
 other_ended see count request came (Err (Words fault)) held held' recorders other ended = absurd ended
 other_ended see count request came (Err (Refused refusal)) held held' recorders other ended = refl
@@ -216,3 +222,32 @@ waiting_left see count contents line ends reads reads' counts counts' held held'
     subst (λ (asked : Option TraceTerms). LeavesBy see count asked ends recorders recorders) (sym other)
     (subst (λ (s : Status). LeavesBy see count None s recorders recorders) (sym (told_status run.ending ends said said' f f' run.told))
     (other_ended see count (request_of line) (system_outcome (made_number line) run.tables) run.ending held held' recorders other run.ended))
+
+-- a console leaves them alone too
+console_trace : (asks : Command) (line : LineParts) → is_console asks ≡ true → trace_of (request_by asks line) ≡ None
+console_trace command.Check line is = absurd (cc)
+console_trace command.Table line is = absurd (cc)
+console_trace command.Index line is = absurd (cc)
+console_trace command.Credit line is = absurd (cc)
+console_trace command.Trace line is = absurd (cc)
+console_trace command.Study line is = absurd (cc)
+console_trace command.Trial line is = absurd (cc)
+console_trace command.Console line is = refl
+
+left_quiet : {R : Type 0} (see : R → Seen) (count : R → ℕ) (ends : Status) (recorders : List R)
+    → (ends ≡ status.RecorderRefused → ⊥) → LeavesBy see count None ends recorders recorders
+left_quiet see count status.Done recorders none = refl
+left_quiet see count status.Words recorders none = refl
+left_quiet see count status.Table recorders none = refl
+left_quiet see count status.ReadFault recorders none = refl
+left_quiet see count status.WriteFault recorders none = refl
+left_quiet see count status.OutOfMemory recorders none = refl
+left_quiet see count status.Cancelled recorders none = refl
+left_quiet see count status.RecorderRefused recorders none = none refl
+
+pub console_left : {R : Type 0} (see : R → Seen) (count : R → ℕ) (line : LineParts) (ends : Status) (recorders : List R)
+    → is_console line.command ≡ true → (ends ≡ status.RecorderRefused → ⊥)
+    → Leaves see count (request_of line) ends recorders recorders
+console_left see count line ends recorders is none =
+    subst (λ (asked : Option TraceTerms). LeavesBy see count asked ends recorders recorders) (sym (console_trace line.command line is))
+    (left_quiet see count ends recorders none)

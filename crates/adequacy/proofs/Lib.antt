@@ -1,8 +1,10 @@
 pub mod AskLemmas
+pub mod ConsoleLemmas
 pub mod FolderLemmas
 pub mod FormLemmas
 pub mod LeavesLemmas
 pub mod ReportLemmas
+pub mod RunLemmas
 pub mod SourceLemmas
 pub mod StoredLemmas
 pub mod StudyLemmas

@@ -4,10 +4,13 @@ use Rattle.ra_base.specs.declared.status.Status.{Status}
 use Rattle.sample_totals.specs.Recorders.{Seen}
 use Rattle.system_model.specs.System.{SystemParts}
 use Rattle.adequacy.specs.declared.endings.Failure.{Failure}
-use Rattle.adequacy.specs.declared.endings.Failure.TheVariants.{Words, Refused, ReadFault, WriteFault, RecorderRefused, OutOfMemory}
+use Rattle.adequacy.specs.declared.endings.Failure.TheVariants.{Words, Refused, ReadFault, WriteFault, RecorderRefused, Cancelled, OutOfMemory}
 use Rattle.adequacy.specs.declared.tables.FolderError.{FolderError}
 use Rattle.adequacy.specs.declared.words.request.Request.{Request}
+use Rattle.campaign_console.specs.LineEnds.{Outside}
+use Rattle.adequacy.specs.Consoles.{ConsoleEnds}
 use Rattle.adequacy.specs.Endings.{Ending, Ends, Tells, Reports}
+use Rattle.adequacy.specs.declared.words.request.ConsoleTerms.{ConsoleTerms}
 
 -- what was told is an ending that the run may have had
 pub told_of : (request : Request) (seen : List Seen) (came : Result SystemParts FolderError) (failure : Failure) (ends : Status) (held held' said said' : Option (List ℕ)) (faults faults' : ℕ)
@@ -17,6 +20,20 @@ told_of request seen came (Words fault) ends held held' said said' f f' ended to
 told_of request seen came ReadFault ends held held' said said' f f' ended told = (Err ReadFault, ended, told)
 told_of request seen came WriteFault ends held held' said said' f f' ended told = (Err WriteFault, ended, told)
 told_of request seen came RecorderRefused ends held held' said said' f f' ended told = (Err RecorderRefused, ended, told)
+told_of request seen came Cancelled ends held held' said said' f f' ended told = (Err Cancelled, ended, told)
 told_of request seen came OutOfMemory ends held held' said said' f f' ended told = (Err OutOfMemory, ended, told)
 told_of request seen came (Refused refusal) ends held held' said said' f f' ended (inl told) = (Err (Refused refusal), ended, told)
 told_of request seen came (Refused refusal) ends held held' said said' f f' ended (inr told) = (Err OutOfMemory, ended.1, told)
+
+-- the same of a console
+pub told_of_console : (terms : ConsoleTerms) (came : Result SystemParts FolderError) (failure : Failure) (ends : Status) (before now : Outside) (said said' : Option (List ℕ)) (faults faults' : ℕ)
+    → ConsoleEnds terms came (Err failure) before now → Reports failure ends said said' faults faults'
+    → (ending : Ending) × ConsoleEnds terms came ending before now × Tells ending ends said said' faults faults'
+told_of_console terms came (Words fault) ends before now said said' f f' ended told = absurd ended
+told_of_console terms came ReadFault ends before now said said' f f' ended told = (Err ReadFault, ended, told)
+told_of_console terms came WriteFault ends before now said said' f f' ended told = (Err WriteFault, ended, told)
+told_of_console terms came RecorderRefused ends before now said said' f f' ended told = absurd ended
+told_of_console terms came Cancelled ends before now said said' f f' ended told = (Err Cancelled, ended, told)
+told_of_console terms came OutOfMemory ends before now said said' f f' ended told = (Err OutOfMemory, ended, told)
+told_of_console terms came (Refused refusal) ends before now said said' f f' ended (inl told) = (Err (Refused refusal), ended, told)
+told_of_console terms came (Refused refusal) ends before now said said' f f' ended (inr told) = (Err OutOfMemory, inl ended.1, told)

@@ -9,7 +9,11 @@ use Rattle.ra_base.specs.declared.table.TableName.{TableName}
 use Rattle.ra_base.specs.declared.table.TableBytes.{TableBytes}
 use Rattle.adequacy.specs.declared.tables.FolderError.{FolderError}
 use Rattle.adequacy.specs.declared.tables.FolderError.TheVariants.{ReadFault, OutOfMemory}
-use Rattle.adequacy.specs.Folder.{Answer, read_outcome, with_table, HasAnswered, AreTold, stored_answer, stored_from}
+use Rattle.ra_base.specs.Causes.{Counts, Rose}
+use Rattle.ra_base.specs.ShelfCounts.{counted}
+use Rattle.ra_base.specs.declared.shelf_counts.ShelfCounts.{ShelfCounts}
+use Rattle.adequacy.specs.Folder.{Answer, read_outcome, with_table, HasAnswered, AreTold, counts_after, is_read_failure, stored_answer, stored_from}
+use Rattle.adequacy.proofs.FolderLemmas.{ending_counted}
 
 -- what came of reads is this, or a read failed, or memory wasn't found
 abbrev pub IsUnless : {T : Type 0} → Result T FolderError → Result T FolderError → Type 0
@@ -63,3 +67,33 @@ told_outcome stored folder (table ∷ order) (answer ∷ answers) tables outcome
           let ends = subst (λ (a : Answer). AnsweredOnward order table tables answers outcome (read_outcome table a)) none after in
           inr (inr ends.1)
     ]
+
+-- a read that lets the reading go on is counted as no fault
+going_counted : (table : TableName) (answer : Answer) (text : Option (List ℕ)) (counts : ShelfCounts) → read_outcome table answer ≡ Ok text → (counted counts answer).faults ≡ counts.faults
+going_counted table (Ok bytes) text counts goes = refl
+going_counted table (Err NoTable) text counts goes = refl
+going_counted table (Err LongTable) text counts goes = absurd (cc)
+going_counted table (Err ReadFailed) text counts goes = absurd (cc)
+going_counted table (Err NoRoom) text counts goes = absurd (cc)
+
+-- reads that came to a fault were counted as one, by the answer that ended them or by one behind it
+fault_onward : (order : List TableName) (table : TableName) (tables : TableBytes) (answer : Answer) (answers : List Answer) (counts : ShelfCounts) (read : Result (Option (List ℕ)) FolderError)
+    → read_outcome table answer ≡ read
+    → ((t : TableBytes) (c : ShelfCounts) → HasAnswered t order answers (Err ReadFault) → Rose c.faults (counts_after c answers).faults)
+    → AnsweredOnward order table tables answers (Err ReadFault) read
+    → Rose counts.faults (counts_after (counted counts answer) answers).faults
+fault_onward order table tables answer answers counts (Ok text) is later answered =
+    subst (λ (f : ℕ). Rose f (counts_after (counted counts answer) answers).faults) (going_counted table answer text counts is)
+    (later (with_table tables table text) (counted counts answer) answered)
+fault_onward order table tables answer answers counts (Err error) is later (none, same) =
+    let fault : error ≡ ReadFault = cc in
+    rw none
+    (subst (λ (e : FolderError). Counts (is_read_failure {T = TableBytes} (Err e)) counts.faults (counted counts answer).faults) fault
+    (ending_counted table answer error counts is)).1
+
+pub fault_rose : (order : List TableName) (tables : TableBytes) (answers : List Answer) (counts : ShelfCounts)
+    → HasAnswered tables order answers (Err ReadFault) → Rose counts.faults (counts_after counts answers).faults
+fault_rose [] tables answers counts answered = absurd (cc)
+fault_rose (table ∷ order) tables [] counts answered = absurd answered
+fault_rose (table ∷ order) tables (answer ∷ answers) counts answered =
+    fault_onward order table tables answer answers counts (read_outcome table answer) refl (λ t c h. fault_rose order t answers c h) answered

@@ -35,6 +35,10 @@ is_campaign Trial = true
 is_campaign Console = true
 is_campaign _ = false
 
+abbrev pub is_console : Command → Bool
+is_console Console = true
+is_console _ = false
+
 -- study and trial go on in rounds
 abbrev pub is_study : Command → Bool
 is_study Study = true

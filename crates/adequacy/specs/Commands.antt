@@ -1,5 +1,5 @@
 -- What each command answers.
-use Rattle.std.specs.Prelude.{◌≡◌, ◌++◌, Bool, true, false, None, List, ℕ, map, Result, Ok, Err, if◌then◌else◌}
+use Rattle.std.specs.Prelude.{◌≡◌, ◌++◌, Bool, true, false, None, List, ℕ, map}
 use Rattle.system_model.specs.System.{SystemParts}
 use Rattle.load_model.specs.Need.{net_hour_of, peak_of}
 use Rattle.analytic_index.specs.Pool.{pool_of}
@@ -10,14 +10,8 @@ use Rattle.index_text.specs.TableText.{table_text}
 use Rattle.index_text.specs.IndexText.{index_text}
 use Rattle.report_text.specs.CheckText.{check_line}
 use Rattle.sample_totals.specs.Recorders.{Seen}
-use Rattle.adequacy.specs.LineParts.{LineParts}
 use Rattle.adequacy.specs.StudyText.{IsStudyText}
 use Rattle.adequacy.specs.Traces.{IsTraceText}
-use Rattle.adequacy.specs.Words.{line_of}
-use Rattle.adequacy.specs.declared.words.command.Command.{Command}
-use Rattle.adequacy.specs.declared.words.command.Command.TheVariants as command
-use Rattle.adequacy.specs.declared.words.fault.WordFault.{WordFault}
-use Rattle.adequacy.specs.declared.words.fault.WordFault.TheVariants.{NoCommand}
 use Rattle.adequacy.specs.declared.words.request.Request.{Request}
 use Rattle.adequacy.specs.declared.words.request.Request.TheVariants.{Check, Table, Index, Credit, Trace, Study, Trial, Console}
 
@@ -44,37 +38,9 @@ IsAnswer (Trial number terms) seen system text =
 IsAnswer (Trace terms) seen system text = IsTraceText system terms seen text
 IsAnswer (Console terms) seen system text = ⊥
 
--- whether a command is built
-abbrev pub is_built : Command → Bool
-is_built command.Check = true
-is_built command.Table = true
-is_built command.Index = true
-is_built command.Credit = true
-is_built command.Study = true
-is_built command.Trial = true
-is_built command.Trace = true
-is_built command.Console = false
-
 -- whether a request is one whose workers are waited for
 abbrev pub waits : Request → Bool
 waits (Study terms) = true
 waits (Trial number terms) = true
 waits (Console terms) = true
 waits request = false
-
--- whether a request is one of a command that is built
-abbrev pub can_answer : Request → Bool
-can_answer (Console terms) = false
-can_answer request = true
-
--- a line of a command that isn't built is no line yet
-abbrev pub if_built : LineParts → Result LineParts WordFault
-if_built line = if is_built line.command then Ok line else Err NoCommand
-
-abbrev pub built_line : Result LineParts WordFault → Result LineParts WordFault
-built_line (Ok line) = if_built line
-built_line (Err fault) = Err fault
-
--- the line that the words spell, of a command that is built, or their first fault
-unfoldable pub asked_line : List (List ℕ) → Result LineParts WordFault
-asked_line words = built_line (line_of words)

@@ -18,7 +18,7 @@ use Rattle.adequacy.specs.Sources.{made_number, system_outcome, stored_outcome, 
 use Rattle.adequacy.specs.Traces.{Leaves, trace_of}
 use Rattle.adequacy.specs.WordFaultText.{word_fault_text}
 use Rattle.adequacy.specs.declared.endings.Failure.{Failure}
-use Rattle.adequacy.specs.declared.endings.Failure.TheVariants.{Words, Refused, ReadFault, WriteFault, RecorderRefused, OutOfMemory}
+use Rattle.adequacy.specs.declared.endings.Failure.TheVariants.{Words, Refused, ReadFault, WriteFault, RecorderRefused, Cancelled, OutOfMemory}
 use Rattle.adequacy.specs.declared.endings.Unread.{Unread}
 use Rattle.adequacy.specs.declared.endings.Unread.TheVariants as unread
 use Rattle.adequacy.specs.declared.tables.FolderError.{FolderError}
@@ -61,6 +61,7 @@ failure_status (Refused refusal) = status.Table
 failure_status ReadFault = status.ReadFault
 failure_status WriteFault = status.WriteFault
 failure_status RecorderRefused = status.RecorderRefused
+failure_status Cancelled = status.Cancelled
 failure_status OutOfMemory = status.OutOfMemory
 
 abbrev pub ending_status : Ending → Status
@@ -80,6 +81,7 @@ error_line (Refused refusal) = refusal_line refusal
 error_line ReadFault = codes "read fault" ++ 10 ∷ []
 error_line WriteFault = codes "write fault" ++ 10 ∷ []
 error_line RecorderRefused = codes "recorder refused" ++ 10 ∷ []
+error_line Cancelled = codes "cancelled" ++ 10 ∷ []
 error_line OutOfMemory = codes "out of memory" ++ 10 ∷ []
 
 -- `err` has gained a line, or its first part where its count of faults rose
@@ -124,8 +126,9 @@ Answers request seen system (Err RecorderRefused) before now =
 Answers request seen system (Err (Words fault)) before now = ⊥
 Answers request seen system (Err (Refused refusal)) before now = ⊥
 Answers request seen system (Err ReadFault) before now = ⊥
+Answers request seen system (Err Cancelled) before now = ⊥
 
--- how a request ends, by what its system came to: where there is one, by what it answers for that system; where the
+-- how a request that is no console's ends, by what its system came to: where there is one, by what it answers for that system; where the
 -- tables are refused, for that reason; where a read failed, so
 abbrev pub Ends : Request → List Seen → Result SystemParts FolderError → Ending → Option (List ℕ) → Option (List ℕ) → Type 0
 Ends request seen came (Err OutOfMemory) before now = now ≡ before
@@ -169,25 +172,6 @@ pub record HasRun (contents : Option Tables) (line : LineParts) (seen : List See
   pub ending : Ending
   pub read : HasRead contents line.place no_tables (tables_read (made_number line)) tables reads reads' counts counts'
   pub ended : Ends (request_of line) seen (system_outcome (made_number line) tables) ending held held'
-  pub told : Tells ending ends said said' faults faults'
-
--- memory wasn't found before anything was read
-pub record HasNotRun (ends : Status) (reads reads' : List Reading) (counts counts' : ShelfCounts) (held held' : Option (List ℕ)) (said said' : Option (List ℕ)) (faults faults' : ℕ) : Type 0 where
-  pub noted : reads' ≡ reads
-  pub counted : counts' ≡ counts
-  pub written : held' ≡ held
-  pub told : Tells (Err OutOfMemory) ends said said' faults faults'
-
--- a line has run, or memory wasn't found before anything was read
-abbrev pub MayRun : Option Tables → LineParts → List Seen → Status → List Reading → List Reading → ShelfCounts → ShelfCounts → Option (List ℕ) → Option (List ℕ) → Option (List ℕ) → Option (List ℕ) → ℕ → ℕ → Type 0
-MayRun contents line seen ends reads reads' counts counts' held held' said said' faults faults' =
-    HasRun contents line seen ends reads reads' counts counts' held held' said said' faults faults'
-    ⊎ HasNotRun ends reads reads' counts counts' held held' said said' faults faults'
-
--- a line has run on the stored tables of its folder, unless a read of them failed
-pub record RunsOn (stored : Tables) (line : LineParts) (seen : List Seen) (ends : Status) (held held' : Option (List ℕ)) (said said' : Option (List ℕ)) (faults faults' : ℕ) : Type 0 where
-  pub ending : Ending
-  pub ended : (ending ≡ Err ReadFault) ⊎ Ends (request_of line) seen (stored_outcome stored line) ending held held'
   pub told : Tells ending ends said said' faults faults'
 
 -- words have given this line, or their first fault, or memory wasn't found

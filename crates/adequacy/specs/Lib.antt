@@ -1,5 +1,6 @@
 pub mod CommandWords
 pub mod Commands
+pub mod Consoles
 pub mod Endings
 pub mod Folder
 pub mod LineParts
@@ -9,6 +10,7 @@ pub mod OptionTable
 pub mod OptionWords
 pub mod Parse
 pub mod Requests
+pub mod Runs
 pub mod Sources
 pub mod StudyText
 pub mod Traces

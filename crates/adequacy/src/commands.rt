@@ -5,12 +5,12 @@ ghost use Rattle.analytic_index.specs.Pool.{IsNewUnit, pool_of};
 ghost use Rattle.adequacy.specs.declared.words.request.Request.{Request};
 ghost use Rattle.index_text.specs.TableText.{table_text};
 ghost use Rattle.index_text.specs.IndexText.{index_text};
-ghost use Rattle.adequacy.specs.Commands.{IsAnswer, check_text, can_answer, waits, is_built as built};
+ghost use Rattle.adequacy.specs.Commands.{IsAnswer, check_text, waits};
 ghost use Rattle.adequacy.specs.LineParts.{LineParts};
 ghost use Rattle.adequacy.specs.Requests.{IsRequestOf};
 ghost use Rattle.adequacy.specs.Traces.{trace_of};
 
-use crate::words::{Command, CreditTerms, Request};
+use crate::words::{CreditTerms, Request};
 use analytic_index::Analysis;
 use capacity_credit::{Steps, credit};
 use index_text::{put_bracket, put_index, put_table};
@@ -28,7 +28,6 @@ pub(crate) fn make_answer(
     system: &System,
     request: Request,
 ) -> Result<Text, OutOfMemory>
-    requires built { can_answer request ≡ true }
     requires waits { waits request ≡ false }
     requires other { trace_of request ≡ None }
     requires terms { (line : LineParts) × IsRequestOf line request }
@@ -101,15 +100,4 @@ fn make_credit_text<L: Ledger>(
     let mut text = Text::new(alloc);
     put_bracket(&mut text, terms.kind, terms.measure, &bracket)?;
     Ok(text)
-}
-
-/// Whether a command is built.
-pub(crate) fn is_built(command: Command) -> bool
-    ensures { result ≡ built command }
-{
-    match command {
-        Command::Check | Command::Table | Command::Index | Command::Credit => true,
-        Command::Trace | Command::Study | Command::Trial => true,
-        Command::Console => false,
-    }
 }

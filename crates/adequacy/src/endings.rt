@@ -23,6 +23,8 @@ pub enum Failure {
     WriteFault,
     /// A recorder refused an hour of a trace.
     RecorderRefused,
+    /// A line of the console cancelled its campaign.
+    Cancelled,
     /// Memory wasn't found.
     OutOfMemory,
 }
@@ -70,6 +72,7 @@ pub(crate) fn report<E: Sink>(alloc: Global, failure: Failure, err: &mut E) -> S
         Failure::ReadFault => tell(err, b"read fault\n", Status::ReadFault),
         Failure::WriteFault => tell(err, b"write fault\n", Status::WriteFault),
         Failure::RecorderRefused => tell(err, b"recorder refused\n", Status::RecorderRefused),
+        Failure::Cancelled => tell(err, b"cancelled\n", Status::Cancelled),
         Failure::OutOfMemory => tell(err, b"out of memory\n", Status::OutOfMemory),
         Failure::Refused(refusal) => match refusal_text(alloc, refusal) {
             Ok(text) => tell(err, text.bytes(), Status::Table),

@@ -2,6 +2,7 @@
 #![tactic(auto)]
 
 mod commands;
+mod consoles;
 mod endings;
 mod sources;
 mod studies;

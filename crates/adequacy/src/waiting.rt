@@ -1,9 +1,10 @@
-//! Lines of the commands that wait for other threads: the samples of a study are run by its workers.
-ghost use Rattle.std.specs.Prelude.{◌≡◌, [], Result, IfOk, false, true};
+//! Lines of the commands whose samples are run by workers, and that ask nothing while these run.
+ghost use Rattle.std.specs.Prelude.{◌≡◌, [], None, Result, IfOk, false, true};
 ghost use Rattle.ra_base.specs.Causes.{Counts};
 ghost use Rattle.ra_base.specs.declared.table.TableBytes.{TableBytes};
-ghost use Rattle.adequacy.specs.CommandWords.{is_campaign, is_trial};
-ghost use Rattle.adequacy.specs.Commands.{IsAnswer, can_answer, waits, is_built as built};
+ghost use Rattle.adequacy.specs.CommandWords.{is_campaign, is_console, is_trial};
+ghost use Rattle.adequacy.specs.Commands.{IsAnswer, waits};
+ghost use Rattle.adequacy.specs.Consoles.{console_of};
 ghost use Rattle.adequacy.specs.Endings.{Answers, Ends, HasRun, is_shelf_failure, is_sink_failure, may_have_written, says_read_fault, says_write_fault, says_written};
 ghost use Rattle.adequacy.specs.Folder.{no_tables, HasRead};
 ghost use Rattle.adequacy.specs.LineParts.{LineParts};
@@ -23,7 +24,7 @@ use std::sync::Wait;
 use std::thread::Threads;
 use system_model::System;
 
-/// Runs a line of a command that waits, and tells how it ended.
+/// Runs a line of a study or a trial, and tells how it ended.
 pub(crate) fn run_waiting<T: Threads + Wait + Sync, S: Shelf, O: Sink, E: Sink, P: Pause + Sync>(
     rt: &T,
     alloc: Global,
@@ -33,8 +34,8 @@ pub(crate) fn run_waiting<T: Threads + Wait + Sync, S: Shelf, O: Sink, E: Sink, 
     err: &mut E,
     pause: &P,
 ) -> Status
-    requires built { built line.now.command ≡ true }
     requires waits { is_campaign line.now.command ≡ true }
+    requires other { is_console line.now.command ≡ false }
     ensures contents { S.contents shelf.new ≡ S.contents shelf.old }
     ensures read_fault { Counts (says_read_fault result)
         (S.counts shelf.old).faults (S.counts shelf.new).faults }
@@ -63,8 +64,8 @@ fn run<T: Threads + Wait + Sync, S: Shelf, O: Sink, P: Pause + Sync>(
     out: &mut O,
     pause: &P,
 ) -> Result<(), Failure>
-    requires built { built line.now.command ≡ true }
     requires waits { is_campaign line.now.command ≡ true }
+    requires other { is_console line.now.command ≡ false }
     ensures contents { S.contents shelf.new ≡ S.contents shelf.old }
     ensures reads { (tables : Result TableBytes FolderError)
         × HasRead (S.contents shelf.old) line.now.place no_tables (tables_read (made_number line.now)) tables
@@ -92,8 +93,8 @@ fn answer<T: Threads + Wait + Sync, O: Sink, P: Pause + Sync>(
     out: &mut O,
     pause: &P,
 ) -> Result<(), Failure>
-    requires built { can_answer request ≡ true }
     requires waits { waits request ≡ true }
+    requires other { console_of request ≡ None }
     requires terms { (line : LineParts) × IsRequestOf line request }
     ensures answer { Answers request [] system.now result (O.held out.old) (O.held out.new) }
     ensures read_faults { is_shelf_failure result ≡ false }
@@ -114,8 +115,8 @@ fn answer_text<T: Threads + Wait + Sync, P: Pause + Sync>(
     request: Request,
     pause: &P,
 ) -> Result<Text, OutOfMemory>
-    requires built { can_answer request ≡ true }
     requires waits { waits request ≡ true }
+    requires other { console_of request ≡ None }
     requires terms { (line : LineParts) × IsRequestOf line request }
     ensures { IfOk result (IsAnswer request [] system.now) }
 {

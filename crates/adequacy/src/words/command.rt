@@ -1,6 +1,6 @@
 //! The commands of the program.
 ghost use Rattle.std.specs.Prelude.{◌≡◌};
-ghost use Rattle.adequacy.specs.CommandWords.{command_named, command_text, is_campaign, is_trial};
+ghost use Rattle.adequacy.specs.CommandWords.{command_named, command_text, is_campaign, is_console, is_trial};
 
 /// What the program is asked to do.
 #[derive(Clone, Copy, Debug, PartialEq, Eq)]
@@ -55,6 +55,13 @@ impl Command {
             Command::Trial => b"trial",
             Command::Console => b"console",
         }
+    }
+
+    // Whether the command answers lines while its campaign runs.
+    pub(crate) fn is_console(self) -> bool
+        ensures { result ≡ is_console self }
+    {
+        matches!(self, Command::Console)
     }
 
     // Whether the command's system is made from a number.

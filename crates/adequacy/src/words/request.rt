@@ -122,7 +122,7 @@ impl Line {
         }
     }
 
-    fn console_terms(&self) -> ConsoleTerms
+    pub(crate) fn console_terms(&self) -> ConsoleTerms
         requires { is_campaign self.now.command ≡ true }
         ensures terms { result ≡ console_terms self.now }
         ensures ranges { AreConsoleTerms self.now result }

@@ -1,0 +1,3 @@
+pub mod AddLaws
+pub mod AskLaws
+pub mod LineLaws

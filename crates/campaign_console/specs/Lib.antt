@@ -1,0 +1,5 @@
+pub mod LineCalls
+pub mod LineTexts
+pub mod Asks
+pub mod LineEnds
+pub mod Ends
