@@ -42,7 +42,7 @@ chosen_left see named before left now is told =
 -- a recorder keeps its kind and its lines through all hours, and where one broke off
 told_lines : {R : Type 0} (see : R → Seen) (system : SystemParts) (seed sample : ℕ) (before now : List R)
     → HasLines system seed sample (map see before) (map see now) → map untold (map see now) ≡ map untold (map see before)
-told_lines see system seed sample before now lines = ap (map untold) lines.2 ∙ untold-lines lines.0 (map see before)
+told_lines see system seed sample before now lines = ap (map untold) lines.3 ∙ untold-lines lines.0 (map see before)
 
 told_broken : {R : Type 0} (see : R → Seen) (system : SystemParts) (seed sample place hour : ℕ) (before now : List R)
     → HasBroken system seed sample place hour (map see before) (map see now) → map untold (map see now) ≡ map untold (map see before)

@@ -32,7 +32,7 @@ abbrev pub texts : List Seen → List ℕ
 texts all = flat_map (λ (seen : Seen). seen.text) all
 
 -- the bytes are the texts of the chosen recorders, each what it was before and then its lines for the hours of the
--- sample's one run
+-- sample's one run, in each of which no feasible dispatch leaves less load unserved
 pub record IsTraceText (system : SystemParts) (terms : TraceTerms) (before : List Seen) (bytes : List ℕ) : Type 0 where
   pub traced : List Seen
   pub lines : HasLines system terms.seed terms.sample (chosen terms.recorder before) traced

@@ -279,7 +279,7 @@ fn traces(rt: HostRuntime) -> Result<(), Fail> {
     for number in 0..CASES.len() {
         let case = CASES[number];
         let mut recorders: Vec<Box<dyn Recorder>> = Vec::new(alloc);
-        for made in case.made {
+        for made in case.made.iter().copied() {
             recorders.push(match made {
                 Made::Plain => Box::new(alloc, Plain::new(alloc))?,
                 Made::Shortfall => Box::new(alloc, Shortfall::new(alloc))?,
@@ -291,7 +291,7 @@ fn traces(rt: HostRuntime) -> Result<(), Fail> {
                         text: Text::new(alloc),
                     },
                 )?,
-                Made::Refusing(at) => Box::new(alloc, RefusingPlain::new(alloc, *at))?,
+                Made::Refusing(at) => Box::new(alloc, RefusingPlain::new(alloc, at))?,
             })?;
         }
         let words = words_of(alloc, case.options)?;

@@ -8,7 +8,7 @@ use Rattle.sample_totals.specs.declared.outcomes.HourOutcome.{HourOutcome}
 use Rattle.sample_totals.specs.Recorders.{Seen, with_line}
 use Rattle.sample_run.specs.declared.traces.TraceError.{TraceError}
 use Rattle.sample_run.specs.declared.traces.TraceError.TheVariants.{Refused, OutOfMemory}
-use Rattle.sample_run.specs.Run.{IsHour, IsOnlyRun, energies_before, outcome_at}
+use Rattle.sample_run.specs.Run.{IsHour, IsLeast, IsOnlyRun, energies_before, outcome_at}
 
 -- the outcomes of the first hours of a sample, so many of them: those of a run, as far as they go
 pub record AreFirstHours (system : SystemParts) (seed sample count : ℕ) (outcomes : List HourOutcome) : Type 0 where
@@ -45,10 +45,14 @@ pub record CountsAt (place : ℕ) (refused : Bool) (before now : List ℕ) : Typ
   pub counts : Counts refused (slice_index before place) count
   pub others : now ≡ slice_set before place count
 
--- recorders have gained their lines for the hours of a sample's one run
+-- recorders have gained their lines for the hours of a sample's one run, in each of which no feasible dispatch leaves
+-- less load unserved
 abbrev pub HasLines : SystemParts → ℕ → ℕ → List Seen → List Seen → Type 0
 HasLines system seed sample before now =
-    (run : List HourOutcome) × IsOnlyRun system seed sample run × (now ≡ map (with_lines run) before)
+    (run : List HourOutcome)
+    × IsOnlyRun system seed sample run
+    × IsLeast system seed sample run
+    × (now ≡ map (with_lines run) before)
 
 -- recorders have gained their lines for the hours before an hour, and those before a place that for this hour too
 abbrev pub HasBroken : SystemParts → ℕ → ℕ → ℕ → ℕ → List Seen → List Seen → Type 0

@@ -70,7 +70,8 @@ impl<'a> Runner<'a> {
     /// the hours before it. Only the recorders may take memory.
     pub fn trace<R: Recorder>(&mut self, sample: u32, recorders: &mut [R]) -> Result<(), TraceError>
         ensures runner { self.new ≡ self.old }
-        // Each recorder gains its lines for the hours of the sample's one run.
+        // Each recorder gains its lines for the hours of the sample's one run. In each of these hours no
+        // feasible dispatch leaves less load unserved.
         ensures ok { OnOk result (HasLines self.old.system self.old.seed sample
             (map R.seen recorders.old) (map R.seen recorders.new)) }
         ensures ok_counts { OnOk result (map R.refusals recorders.new ≡ map R.refusals recorders.old) }

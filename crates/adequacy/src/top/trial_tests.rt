@@ -15,30 +15,34 @@ const CHECK_OF_7: &str =
 const CHECK_OF_20: &str =
     "zones 3 units 96 interfaces 3 lines 5 storages 2 hours 8784 capacity 7200 peak 6420 hour 180\n";
 
-// What these words come to.
-#[derive(Drop)]
-struct Told {
-    status: Status,
-    out: MemorySink,
-}
-
-fn tell<T: Threads + Wait + Sync>(
+// What is written for these words, which are answered.
+fn written<T: Threads + Wait + Sync>(
     rt: &T,
     alloc: Global,
     words: &[&str],
     shelf: &mut MemoryShelf,
-) -> Result<Told, Fail> {
+) -> Result<MemorySink, Fail> {
     let mut list = Vec::new(alloc);
     for word in words {
         list.push(String::from_str(alloc, word)?)?;
     }
-    let mut out = MemorySink::new(alloc, 2_000_000)?;
+    let mut out = MemorySink::new(alloc, 2_000)?;
     let mut err = MemorySink::new(alloc, 100)?;
     let mut none: Vec<Box<dyn Recorder>> = Vec::new(alloc);
     let status = adequacy(
-        rt, alloc, &list, shelf, &mut out, &mut err, &NoPause, &mut none,
+        rt,
+        alloc,
+        &list,
+        shelf,
+        &mut out,
+        &mut err,
+        &NoPause,
+        &mut none,
     );
-    Ok(Told { status, out })
+    match status {
+        Status::Done => Ok(out),
+        _ => Err("not answered".into()),
+    }
 }
 
 // Two hundred samples in shares of seven: the last share has four.
@@ -57,12 +61,10 @@ fn workers_write_the_bytes_of_one(rt: HostRuntime) -> Result<(), Fail> {
         "--workers",
         "4",
     ];
-    let alone = tell(&rt, alloc, &one, &mut shelf)?;
-    let together = tell(&rt, alloc, &four, &mut shelf)?;
-    assert_eq!(rt; alone.status, Status::Done);
-    assert!(rt; alone.out.bytes().starts_with(CHECK_OF_7.as_bytes()));
-    assert_eq!(rt; together.status, Status::Done);
-    assert_eq!(rt; together.out.bytes(), alone.out.bytes());
+    let alone = written(&rt, alloc, &one, &mut shelf)?;
+    let together = written(&rt, alloc, &four, &mut shelf)?;
+    assert!(rt; alone.bytes().starts_with(CHECK_OF_7.as_bytes()));
+    assert_eq!(rt; together.bytes(), alone.bytes());
     Ok(())
 }
 
@@ -91,21 +93,18 @@ fn shelf_of(alloc: Global, tables: &TableBytes) -> Result<MemoryShelf, Fail> {
 fn a_planners_folder(rt: HostRuntime) -> Result<(), Fail> {
     let alloc = rt.alloc();
     let mut shelf = shelf_of(alloc, &make_tables(alloc, 20)?)?;
-    let check = tell(&rt, alloc, &["check", "F"], &mut shelf)?;
-    assert_eq!(rt; check.out.bytes(), CHECK_OF_20.as_bytes());
-    let one = tell(&rt, alloc, &["study", "F", "--samples", "20"], &mut shelf)?;
-    let four = tell(
+    let check = written(&rt, alloc, &["check", "F"], &mut shelf)?;
+    assert_eq!(rt; check.bytes(), CHECK_OF_20.as_bytes());
+    let one = written(&rt, alloc, &["study", "F", "--samples", "20"], &mut shelf)?;
+    let made = written(
         &rt,
         alloc,
-        &["study", "F", "--samples", "20", "--workers", "4"],
+        &["trial", "20", "--samples", "20", "--workers", "4"],
         &mut shelf,
     )?;
-    assert_eq!(rt; four.status, Status::Done);
-    assert_eq!(rt; four.out.bytes(), one.out.bytes());
-    let made = tell(&rt, alloc, &["trial", "20", "--samples", "20"], &mut shelf)?;
     assert_eq!(rt;
-        made.out.bytes().strip_prefix(CHECK_OF_20.as_bytes()),
-        Some(one.out.bytes())
+        made.bytes().strip_prefix(CHECK_OF_20.as_bytes()),
+        Some(one.bytes())
     );
     Ok(())
 }
