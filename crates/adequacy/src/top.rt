@@ -303,6 +303,8 @@ fn answer_text<R: Recorder>(
 }
 
 #[cfg(test)]
+mod console_tests;
+#[cfg(test)]
 mod schedule_tests;
 #[cfg(test)]
 mod tests;

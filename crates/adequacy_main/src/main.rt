@@ -1,12 +1,13 @@
-//! The program: real folders, standard output and standard error over the proved library.
+//! The program: real folders, standard input, standard output and standard error over the proved library.
 #![tactic(auto)]
 
 mod folder_shelf;
+mod std_console;
 mod std_sink;
 
 use adequacy::{Unread, report_unread};
 use folder_shelf::FolderShelf;
-use ra_base::{NoPause, Sink, Status};
+use ra_base::{Console, NoPause, Sink, Status};
 use result_recorders::{BindingCut, Plain, Shortfall, StorageLevel};
 use sample_totals::Recorder;
 use std::alloc::Global;
@@ -15,6 +16,7 @@ use std::rt::{Env, Files};
 use std::sync::Wait;
 use std::thread::Threads;
 use std::{env, io};
+use std_console::StdConsole;
 use std_sink::StdSink;
 
 /// The words of the command line, without the program's own name.
@@ -38,8 +40,14 @@ fn boxed<R: Recorder>(alloc: Global, recorder: R) -> Result<Box<R>, Unread> {
 }
 
 /// Runs the words of the command line, with one recorder of each kind, in the order of kinds.
-fn run<R: Threads + Wait + Sync + Env + Files + AllocGlobal, O: Sink, E: Sink>(
+fn run<
+    R: Threads + Wait + Sync + Env + Files + AllocGlobal,
+    C: Console + Send,
+    O: Sink + Send,
+    E: Sink,
+>(
     rt: &R,
+    console: &mut C,
     out: &mut O,
     err: &mut E,
 ) -> Result<Status, Unread> {
@@ -58,6 +66,7 @@ fn run<R: Threads + Wait + Sync + Env + Files + AllocGlobal, O: Sink, E: Sink>(
         alloc,
         &words,
         &mut shelf,
+        console,
         out,
         err,
         &NoPause,
@@ -66,9 +75,10 @@ fn run<R: Threads + Wait + Sync + Env + Files + AllocGlobal, O: Sink, E: Sink>(
 }
 
 fn main(rt: HostRuntime) -> ExitCode {
+    let mut console = StdConsole::new(rt.stdin());
     let mut out = StdSink::new(rt.stdout());
     let mut err = StdSink::new(rt.stderr());
-    let status = match run(&rt, &mut out, &mut err) {
+    let status = match run(&rt, &mut console, &mut out, &mut err) {
         Ok(status) => status,
         Err(reason) => report_unread(reason, &mut err),
     };

@@ -1,6 +1,7 @@
 use crate::folder_shelf::FolderShelf;
+use crate::std_console::StdConsole;
 use crate::std_sink::StdSink;
-use ra_base::{Shelf, ShelfError, Sink, TableName};
+use ra_base::{Console, ConsoleError, Shelf, ShelfError, Sink, TableName};
 use std::fs;
 use std::test::Fail;
 
@@ -52,5 +53,28 @@ fn real_sink(rt: HostRuntime) -> Result<(), Fail> {
     );
     let mut closed = StdSink::new(fs::open(&rt, "answer")?);
     assert!(rt; closed.write(b"x").is_err());
+    Ok(())
+}
+
+// A console over a real file gives its lines: a carriage return stays, an empty line is one, a long line comes cut
+// to 4,097 bytes, the last needs no line feed; then there is none. A folder in the file's place can't be read.
+#[test]
+fn real_console(rt: HostRuntime) -> Result<(), Fail> {
+    let alloc = rt.alloc();
+    let mut text = Vec::new(alloc);
+    text.extend_from_slice(b"progress\r\n\n")?;
+    text.extend_from_slice(&vec![in alloc; 120u8; 5_000]?)?;
+    text.extend_from_slice(b"\nseal")?;
+    fs::write(&rt, "lines", text.as_slice())?;
+    let mut console = StdConsole::new(fs::open(&rt, "lines")?);
+    for (length, first) in [(9, b"progress\r".as_slice()), (0, b""), (4_097, b"xxx"), (4, b"seal")] {
+        let line = console.line(alloc).map_err(|_| "line")?.ok_or("end")?;
+        assert_eq!(rt; line.bytes().len(), length);
+        assert!(rt; line.bytes().starts_with(first));
+    }
+    assert!(rt; console.line(alloc).map_err(|_| "end")?.is_none());
+    fs::create_dir(&rt, "H")?;
+    let mut folder = StdConsole::new(fs::open(&rt, "H")?);
+    assert_eq!(rt; folder.line(alloc).err(), Some(ConsoleError::Fault));
     Ok(())
 }

@@ -2,7 +2,7 @@
 
 use super::adequacy;
 use super::tests::{DAY, NEVER_OUT, ZONE, shelf_of, words_of};
-use ra_base::{MemorySink, Pause, Status};
+use ra_base::{MemoryConsole, MemorySink, Pause, Status};
 use sample_totals::Recorder;
 use std::sync::atomic::{AtomicU64, Ordering};
 use std::test::Fail;
@@ -53,9 +53,10 @@ fn workers_run_at_once_and_claim_their_shares(rt: HostRuntime) -> Result<(), Fai
         come: AtomicU64::new(0),
         waited: AtomicU64::new(0),
     };
+    let mut lines = MemoryConsole::new(alloc);
     let mut none: Vec<Box<dyn Recorder>> = Vec::new(alloc);
     let status = adequacy(
-        &rt, alloc, &words, &mut shelf, &mut out, &mut err, &pause, &mut none,
+        &rt, alloc, &words, &mut shelf, &mut lines, &mut out, &mut err, &pause, &mut none,
     );
     assert_eq!(rt; status, Status::Done);
     assert_eq!(rt; pause.waited.load(Ordering::SeqCst), 0);

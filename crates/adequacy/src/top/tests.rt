@@ -1,7 +1,7 @@
 ghost use Rattle.std.specs.Prelude.{Some};
 
 use super::adequacy;
-use ra_base::{MemoryShelf, MemorySink, NoPause, Sink, SinkFault, Status, TableName};
+use ra_base::{MemoryConsole, MemoryShelf, MemorySink, NoPause, Sink, SinkFault, Status, TableName};
 use sample_totals::Recorder;
 use std::alloc::Global;
 use std::test::Fail;
@@ -25,7 +25,7 @@ pub(super) const NEVER_OUT: (TableName, &str) = (
     "name,zone,capacity,failure,repair\nU1,A,100,0,1\n",
 );
 
-const ALWAYS_OUT: (TableName, &str) = (
+pub(super) const ALWAYS_OUT: (TableName, &str) = (
     TableName::Units,
     "name,zone,capacity,failure,repair\nU1,A,100,1,0\n",
 );
@@ -57,7 +57,7 @@ const OPEN_QUOTE: (TableName, &str) = (
     "\u{feff}fuel,repair,name,zone,failure,capacity\r\ngas,0.98,\"U, one\",A,0.02,3.0\r\ncoal, 0.98 ,U2,A,2e-2,5\r\n\"gas,0.98,U3,A,0.02,4",
 );
 
-const NOTHING_SHORT: &str = "samples 2
+pub(super) const NOTHING_SHORT: &str = "samples 2
 hours sum 0 mean 0.000 error 0.000
 days sum 0 mean 0.000 error 0.000
 events sum 0 mean 0.000 error 0.000
@@ -65,7 +65,7 @@ unserved sum 0 mean 0.000 error 0.000
 zone A sum 0 mean 0.000 error 0.000
 ";
 
-const ALL_SHORT: &str = "samples 2
+pub(super) const ALL_SHORT: &str = "samples 2
 hours sum 48 mean 24.000 error 0.000
 days sum 2 mean 1.000 error 0.000
 events sum 2 mean 1.000 error 0.000
@@ -585,9 +585,10 @@ fn answers(rt: HostRuntime) -> Result<(), Fail> {
         let mut shelf = shelf_of(alloc, case.tables)?;
         let mut out = CountedSink::new(alloc, 1000)?;
         let mut err = CountedSink::new(alloc, 1000)?;
+        let mut lines = MemoryConsole::new(alloc);
         let mut none: Vec<Box<dyn Recorder>> = Vec::new(alloc);
         let status = adequacy(
-            &rt, alloc, &words, &mut shelf, &mut out, &mut err, &NoPause, &mut none,
+            &rt, alloc, &words, &mut shelf, &mut lines, &mut out, &mut err, &NoPause, &mut none,
         );
         assert_eq!(rt; status, case.status, "case {number}");
         assert!(rt; out.holds(case.out), "case {number}");
@@ -622,9 +623,10 @@ fn faults(rt: HostRuntime) -> Result<(), Fail> {
         }
         let mut out = MemorySink::new(alloc, capacity)?;
         let mut err = MemorySink::new(alloc, room)?;
+        let mut lines = MemoryConsole::new(alloc);
         let mut none: Vec<Box<dyn Recorder>> = Vec::new(alloc);
         let status = adequacy(
-            &rt, alloc, &words, &mut shelf, &mut out, &mut err, &NoPause, &mut none,
+            &rt, alloc, &words, &mut shelf, &mut lines, &mut out, &mut err, &NoPause, &mut none,
         );
         let (want, line, held) = if fails > 0 {
             (Status::ReadFault, "read fault\n", 0)
