@@ -1,25 +1,27 @@
 -- What an hour leaves.
-use Rattle.std.proofs.Common.{◌≡◌, ℕ, ◌<◌, ◌≤◌, Bool, true, false, List, length, get_or, refl, ap, sym, ◌∙◌, subst, arith}
-use Rattle.std.proofs.lemmas.List.{length-map}
+use Rattle.std.proofs.Common.{◌≡◌, ℕ, add-one, ◌+◌, ◌<◌, ◌≤◌, Bool, true, false, List, length, get_or, replicate, Result, Ok, IfOk, pos, refl, ap, sym, ◌∙◌, subst, arith}
+use Rattle.std.proofs.lemmas.List.{length-map, length-replicate}
 use Rattle.std.proofs.lemmas.List.FromFn.{length-map-range_with_len, get_or-map-range_with_len}
 use Rattle.std.proofs.lemmas.List.Elements.{All-map, All-weaker}
 use Rattle.system_model.specs.declared.components.Interface.{Interface}
 use Rattle.system_model.specs.declared.components.Storage.{Storage}
 use Rattle.system_model.specs.System.{SystemParts, IsValid, IsInterfaceAmong, IsStorageAmong, zone_count, storage_count, storage_at}
-use Rattle.outage_chronology.specs.Outages.{storage_component}
-use Rattle.outage_chronology.specs.Standing.{Standing}
+use Rattle.outage_chronology.specs.Outages.{storage_component, was_up}
+use Rattle.outage_chronology.specs.Standing.{Standing, is_up_at, was_up_at}
 use Rattle.storage_state.specs.Energy.{caps_if, caps_of}
-use Rattle.storage_state.specs.Holdings.{Holdings, IsWithinCaps, carried_energies, energy_of}
+use Rattle.storage_state.specs.Holdings.{Holdings, IsWithinCaps, carried_energies, energy_of, start_energies}
 use Rattle.zone_network.specs.Sums.{NumberSet}
-use Rattle.zone_network.specs.Network.{ShapeParts, NetworkParts, IsShape, IsLinkAmong, device_count, discharge_cap_at, charge_cap_at}
+use Rattle.zone_network.specs.Network.{ShapeParts, NetworkParts, IsShape, IsLinkAmong, link_count, device_count, empty_network, discharge_cap_at, charge_cap_at}
 use Rattle.zone_network.specs.Cut.{IsCut}
 use Rattle.sample_totals.specs.declared.outcomes.HourOutcome.{HourOutcome}
 use Rattle.cut_certificate.specs.declared.chains.Chain.{Chain}
-use Rattle.cut_certificate.specs.Chain.{AreSized, Fit, IsAccepted, IsBestOutcome, all_unserved}
+use Rattle.cut_certificate.specs.Chain.{empty_chain, AreSized, Fit, IsAccepted, IsBestOutcome, all_unserved}
 use Rattle.cut_certificate.specs.Least.{IsLeastUnserved}
 use Rattle.sample_run.specs.HourNetwork.{shape_of, link_of, network_of, device_caps}
 use Rattle.sample_run.specs.Run.{IsHour, energies_after}
 use Rattle.sample_run.specs.Moments.{IsKept}
+use Rattle.sample_run.specs.declared.up_sums.UpSums.{UpSums}
+use Rattle.sample_run.specs.UpSums.{AreSums, all_up}
 
 -- the shape of a valid system's networks is one
 pub shape-valid : (system : SystemParts) → IsValid system → IsShape (shape_of system)
@@ -120,20 +122,66 @@ within-caps system up held hour n outcome chain same is accepted k below =
           );
     }
 
--- what is kept still belongs to the system
-pub kept-again : (system : SystemParts) (standing : Standing) (held held' : Holdings) (n : NetworkParts) (dispatcher : ShapeParts) (outcome : HourOutcome) (energies : List ℕ) (chain : Chain)
+-- what holds of a value that a call answered
+pub answered : {A E : Type 0} (result : Result A E) (value : A) (P : A → Type 0) → result ≡ Ok value → IfOk result P → P value
+answered result value P is holds = subst (λ r. IfOk r P) is holds
+
+-- what is made for a system is kept from then on
+pub kept-first : (system : SystemParts) (shape : ShapeParts) (standing : Standing) (sums : UpSums) (held : Holdings) (n : NetworkParts) (dispatcher : ShapeParts) (outcome : HourOutcome) (chain : Chain) (zones devices : ℕ)
+    → shape ≡ shape_of system
     → standing.system ≡ system
+    → AreSums system (is_up_at standing) sums
+    → held ≡ record { system = system; energies = start_energies system }
+    → n ≡ empty_network shape
+    → dispatcher ≡ shape
+    → chain ≡ empty_chain shape
+    → zones ≡ shape.zones
+    → devices ≡ device_count shape
+    → outcome ≡ record { hour = 0; unserved = replicate zones 0; discharge = replicate devices 0; charge = replicate devices 0; energy = replicate devices 0; cut = 0 }
+    → IsKept system standing sums held n dispatcher outcome chain
+kept-first system shape standing sums held n dispatcher outcome chain zones devices made stands sum_up holds empty dispatches none zones_are devices_are out =
+    let at : n.shape ≡ shape = ap (λ (m : NetworkParts). m.shape) empty in
+    let by_device : length (replicate devices 0) ≡ device_count n.shape =
+    length-replicate devices 0 ∙ devices_are ∙ sym (ap device_count at) in
+    let by_zone : length (replicate zones 0) ≡ n.shape.zones =
+    length-replicate zones 0 ∙ zones_are ∙ sym (ap (λ (s : ShapeParts). s.zones) at) in
+    record {
+      chronology = stands;
+      kept_sums = sum_up;
+      storages = ap (λ (h : Holdings). h.system) holds;
+      held = ap (λ (h : Holdings). length h.energies) holds ∙ length-map system.storages (λ (storage : Storage). storage.start);
+      shape = at ∙ made;
+      dispatches = dispatches ∙ made;
+      sizes =
+          record {
+            unserved = ap (λ (o : HourOutcome). length o.unserved) out ∙ by_zone;
+            discharge = ap (λ (o : HourOutcome). length o.discharge) out ∙ by_device;
+            charge = ap (λ (o : HourOutcome). length o.charge) out ∙ by_device;
+            energy = ap (λ (o : HourOutcome). length o.energy) out ∙ by_device;
+            flows = ap (λ (c : Chain). length c.flows) none ∙ length-replicate (link_count shape) (pos 0) ∙ sym (ap link_count at);
+            generation = ap (λ (c : Chain). length c.generation) none ∙ length-replicate shape.zones 0 ∙ sym (ap (λ (s : ShapeParts). s.zones) at);
+            sets =
+                ap (λ (c : Chain). length c.sets) none ∙ length-replicate (shape.zones + device_count shape + device_count shape) 0
+                ∙ sym (ap (λ (s : ShapeParts). s.zones + device_count s + device_count s) at);
+          };
+    }
+
+-- what is kept still belongs to the system
+pub kept-again : (system : SystemParts) (standing : Standing) (sums : UpSums) (held held' : Holdings) (n : NetworkParts) (dispatcher : ShapeParts) (outcome : HourOutcome) (energies : List ℕ) (chain : Chain)
+    → standing.system ≡ system
+    → AreSums system (is_up_at standing) sums
     → held.system ≡ system
     → n.shape ≡ shape_of system
     → dispatcher ≡ n.shape
     → Fit n outcome chain
     → energies ≡ energies_after system held.energies outcome.charge outcome.discharge
     → held' ≡ record held { energies = energies }
-    → IsKept system standing held' n dispatcher (record outcome { energy = energies }) chain
-kept-again system standing held held' n dispatcher outcome energies chain stands holds shape dispatches fit after is =
+    → IsKept system standing sums held' n dispatcher (record outcome { energy = energies }) chain
+kept-again system standing sums held held' n dispatcher outcome energies chain stands sum_up holds shape dispatches fit after is =
     let size : length energies ≡ storage_count system = ap length after ∙ length-map-range_with_len _ 0 (storage_count system) in
     record {
       chronology = stands;
+      kept_sums = sum_up;
       storages = ap (λ (h : Holdings). h.system) is ∙ holds;
       held = ap (λ (h : Holdings). length h.energies) is ∙ size;
       shape = shape;
@@ -181,14 +229,16 @@ pub least-made : (system : SystemParts) (up : NumberSet) (before : List ℕ) (ho
 least-made system up before hour n outcome is least = subst (λ (m : NetworkParts). IsLeastUnserved m (all_unserved m outcome)) is least
 
 -- what is kept is kept on over the next hour
-pub kept-next : (system : SystemParts) (standing standing' : Standing) (held held' : Holdings) (n : NetworkParts) (dispatcher : ShapeParts) (outcome : HourOutcome) (chain : Chain)
+pub kept-next : (system : SystemParts) (standing standing' : Standing) (sums sums' : UpSums) (held held' : Holdings) (n : NetworkParts) (dispatcher : ShapeParts) (outcome : HourOutcome) (chain : Chain)
     → standing'.system ≡ standing.system
     → held' ≡ record held { energies = carried_energies held.system held.energies }
-    → IsKept system standing held n dispatcher outcome chain
-    → IsKept system standing' held' n dispatcher outcome chain
-kept-next system standing standing' held held' n dispatcher outcome chain stands is kept =
+    → IsKept system standing sums held n dispatcher outcome chain
+    → AreSums system (is_up_at standing') sums'
+    → IsKept system standing' sums' held' n dispatcher outcome chain
+kept-next system standing standing' sums sums' held held' n dispatcher outcome chain stands is kept sum_up =
     record {
       chronology = stands ∙ kept.chronology;
+      kept_sums = sum_up;
       storages = ap (λ (h : Holdings). h.system) is ∙ kept.storages;
       held =
           ap (λ (h : Holdings). length h.energies) is ∙ length-map-range_with_len _ 0 (storage_count held.system)
@@ -197,3 +247,16 @@ kept-next system standing standing' held held' n dispatcher outcome chain stands
       dispatches = kept.dispatches;
       sizes = kept.sizes;
     }
+
+-- sums over all components are those before hour 0, and those of an hour are those before the next
+pub sums-first : (system : SystemParts) (standing : Standing) (sums : UpSums) → standing.hour ≡ 0 → AreSums system all_up sums → AreSums system (was_up_at standing) sums
+sums-first system standing sums first are =
+    subst (λ (h : ℕ). AreSums system (was_up standing.system standing.seed standing.sample h) sums) (sym first) are
+
+pub sums-next : (system : SystemParts) (standing standing' : Standing) (sums : UpSums)
+    → standing' ≡ record standing { hour = standing.hour + 1 }
+    → AreSums system (is_up_at standing) sums
+    → AreSums system (was_up_at standing') sums
+sums-next system standing standing' sums is are =
+    subst (λ (s : Standing). AreSums system (was_up_at s) sums) (sym is)
+    (subst (λ (h : ℕ). AreSums system (was_up standing.system standing.seed standing.sample h) sums) (sym (add-one standing.hour)) are)

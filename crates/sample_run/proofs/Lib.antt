@@ -1,3 +1,5 @@
+pub mod UpSumsSteps
+pub mod UpSumsLoops
 pub mod NetworkSteps
 pub mod EnergySteps
 pub mod HoursLemmas

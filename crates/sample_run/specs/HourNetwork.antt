@@ -50,13 +50,18 @@ lines_count system interface = sum_where (lines_of system interface) (λ line. 1
 abbrev pub up_lines_of : SystemParts → NumberSet → ℕ → NumberSet
 up_lines_of system up interface = λ line. up (line_component system line) && lines_of system interface line
 
+-- the sum over them, one way
+abbrev pub up_lines_sum : SystemParts → NumberSet → (Line → ℕ) → ℕ → ℕ
+up_lines_sum system up by_line interface =
+    sum_where (up_lines_of system up interface) (λ line. by_line (line_at system line)) (line_count system)
+
 -- the limit of an interface one way, in MW: its stated limit where it has no line, and else the lesser of that and of
 -- the sum over its lines that are up
 abbrev pub limit_of : SystemParts → NumberSet → (Line → ℕ) → ℕ → ℕ → ℕ
 limit_of system up by_line stated interface =
     if lines_count system interface == 0
     then stated
-    else min stated (sum_where (up_lines_of system up interface) (λ line. by_line (line_at system line)) (line_count system))
+    else min stated (up_lines_sum system up by_line interface)
 
 abbrev pub forward_limit : SystemParts → NumberSet → ℕ → ℕ
 forward_limit system up interface =

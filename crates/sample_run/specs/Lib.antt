@@ -1,5 +1,5 @@
 pub mod HourNetwork
-pub mod Stages
+pub mod UpSums
 pub mod Run
 pub mod Moments
 pub mod Ready

@@ -2,10 +2,14 @@ ghost use Rattle.std.specs.Prelude.{◌≡◌, ℕ, ◌+◌, ◌<◌, IfOk, leng
 ghost use Rattle.system_model.specs.System.{IsValid, zone_count, storage_count, hour_count};
 ghost use Rattle.storage_state.specs.Holdings.{IsWithinCaps, start_energies, carried_energies};
 ghost use Rattle.sample_run.specs.HourNetwork.{shape_of};
+ghost use Rattle.outage_chronology.specs.Standing.{is_up_at};
+ghost use Rattle.sample_run.specs.UpSums.{AreSums};
 ghost use Rattle.sample_run.specs.Run.{energies_after};
 
+use crate::both::both;
 use crate::network::set_hour;
 use crate::shapes::shape_of;
+use crate::up_sums::UpSums;
 use cut_certificate::Chain;
 use hour_dispatch::Dispatcher;
 use outage_chronology::Chronology;
@@ -23,6 +27,7 @@ use zone_network::Network;
 pub(crate) struct Hours<'a> {
     system: &'a System,
     chronology: Chronology<'a>,
+    sums: UpSums,
     storages: Storages<'a>,
     network: Network,
     dispatcher: Dispatcher,
@@ -44,7 +49,7 @@ impl<'a> Model for Hours<'a> {
       outcome = h.outcome;
     } };
 
-    ghost invariant = { λ h. IsKept h.system.now h.chronology h.storages h.network h.dispatcher h.outcome h.chain };
+    ghost invariant = { λ h. IsKept h.system.now h.chronology h.sums h.storages h.network h.dispatcher h.outcome h.chain };
 }
 
 impl<'a> Hours<'a> {
@@ -60,14 +65,28 @@ impl<'a> Hours<'a> {
         ensures seed { IfOk result (λ h. h.seed ≡ seed) }
     {
         let shape = shape_of(alloc, system)?;
+        let held = both(
+            up_at_first(alloc, system, seed),
+            Storages::new(alloc, system),
+        );
+        let means = both(Network::new(alloc, &shape), Dispatcher::new(alloc, &shape));
+        let results = both(
+            Chain::new(alloc, &shape),
+            HourOutcome::new(alloc, shape.zones(), shape.devices()),
+        );
+        let (held, (means, results)) = both(held, both(means, results))?;
+        let ((chronology, sums), storages) = held;
+        let (network, dispatcher) = means;
+        let (chain, outcome) = results;
         Ok(Hours {
             system,
-            chronology: Chronology::new(alloc, system, seed)?,
-            storages: Storages::new(alloc, system)?,
-            network: Network::new(alloc, &shape)?,
-            dispatcher: Dispatcher::new(alloc, &shape)?,
-            chain: Chain::new(alloc, &shape)?,
-            outcome: HourOutcome::new(alloc, shape.zones(), shape.devices())?,
+            chronology,
+            sums,
+            storages,
+            network,
+            dispatcher,
+            chain,
+            outcome,
         })
     }
 
@@ -91,7 +110,9 @@ impl<'a> Hours<'a> {
           outcome = self.new.outcome;
         } }
     {
+        self.sums.return_all(self.system, &self.chronology);
         self.chronology.start(sample);
+        self.sums.follow(self.system, &self.chronology);
         self.storages.reset();
         self.work_out();
     }
@@ -111,6 +132,7 @@ impl<'a> Hours<'a> {
         } }
     {
         self.chronology.step();
+        self.sums.follow(self.system, &self.chronology);
         self.storages.carry();
         self.work_out();
     }
@@ -130,6 +152,7 @@ impl<'a> Hours<'a> {
             self.system,
             &self.chronology,
             &self.storages,
+            &self.sums,
         );
         self.outcome.hour = self.chronology.hour();
         self.dispatcher
@@ -156,6 +179,28 @@ impl<'a> Hours<'a> {
     {
         self.system.zones()
     }
+}
+
+/// What is up in hour 0 of sample 0, and the sums over it.
+fn up_at_first<'a>(
+    alloc: Global,
+    system: &'a System,
+    seed: u64,
+) -> Result<(Chronology<'a>, UpSums), OutOfMemory>
+    ensures chronology { IfOk result (λ up. up.0 ≡ record {
+      system = system.now;
+      seed = seed;
+      sample = 0;
+      hour = 0;
+    }) }
+    ensures sums { IfOk result (λ up. AreSums system.now (is_up_at up.0) up.1) }
+{
+    let (chronology, mut sums) = both(
+        Chronology::new(alloc, system, seed),
+        UpSums::new(alloc, system),
+    )?;
+    sums.follow(system, &chronology);
+    Ok((chronology, sums))
 }
 
 /// Charges and discharges each storage, in MW, and writes what it then holds, in kWh.

@@ -2,6 +2,7 @@
 //! follow, and the figures that the hours come to.
 #![tactic(auto)]
 
+mod both;
 mod hours;
 mod network;
 mod ranges;
@@ -10,6 +11,7 @@ mod shapes;
 #[cfg(test)]
 mod tests;
 mod traces;
+mod up_sums;
 mod work;
 
 pub use runner::Runner;

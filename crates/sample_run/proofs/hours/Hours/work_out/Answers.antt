@@ -28,8 +28,8 @@ apply-requires-clause-within c =
 
 pub invariant_of-self : goal.invariant_of-self
 invariant_of-self c =
-    kept-again c.self.inside.system.now c.self.inside.chronology c.self.inside.storages c.apply.new.storages c.set_hour.new.net c.best.new.self
-    c.best.new.outcome c.apply.new.energy c.best.new.chain c.self.invariant.chronology c.self.invariant.storages
+    kept-again c.self.inside.system.now c.self.inside.chronology c.self.inside.sums c.self.inside.storages c.apply.new.storages c.set_hour.new.net c.best.new.self
+    c.best.new.outcome c.apply.new.energy c.best.new.chain c.self.invariant.chronology c.self.invariant.kept_sums c.self.invariant.storages
     (ap (λ (n : NetworkParts). n.shape) c.set_hour.ensures ∙ network-shape c.self.inside.system.now (is_up_at c.self.inside.chronology) c.self.inside.storages.energies c.self.inside.chronology.hour)
     c.best.ensures.shape c.best.ensures.fit c.apply.ensures.energies c.apply.ensures.storages
 
