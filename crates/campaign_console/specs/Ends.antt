@@ -10,27 +10,18 @@ use Rattle.campaign_workers.specs.Working.{AreWork}
 use Rattle.sample_totals.specs.Totals.{Sheet}
 use Rattle.sample_run.specs.SampleWorks.{WorkTerms, StandsFor}
 use Rattle.report_text.specs.GateText.{interim_text}
-use Rattle.campaign_console.specs.declared.requests.Request.{Request}
-use Rattle.campaign_console.specs.declared.requests.Request.TheVariants.{Cancel}
 use Rattle.campaign_console.specs.declared.lines.LinesEnd.{LinesEnd}
 use Rattle.campaign_console.specs.declared.lines.LinesEnd.TheVariants as lines
 use Rattle.campaign_console.specs.declared.consoles.ConsoleEnd.{ConsoleEnd}
 use Rattle.campaign_console.specs.declared.consoles.ConsoleEnd.TheVariants.{Finished, Cancelled, ReadFault, WriteFault, OutOfMemory}
-use Rattle.campaign_console.specs.LineCalls.{request_of}
+use Rattle.campaign_console.specs.declared.together.Ran.{Ran}
+use Rattle.campaign_console.specs.LineCalls.{asks_cancel}
 use Rattle.campaign_console.specs.LineEnds.{Outside, LinesRead}
 
 -- the one run of the samples below a number, or none where there is no such sample
 abbrev pub first_runs : ℕ → List Run
 first_runs zero = []
 first_runs (suc n) = run 0 n ∷ []
-
--- whether a line asks for a cancel
-abbrev pub is_cancel_request : Request → Bool
-is_cancel_request Cancel = true
-is_cancel_request other = false
-
-abbrev pub asks_cancel : List ℕ → Bool
-asks_cancel line = is_cancel_request (request_of line)
 
 -- a text was written, or where the write failed the first part of it, and all else stays
 pub record Writes (fails : Bool) (before now : Outside) (text : List ℕ) : Type 0 where
@@ -100,3 +91,21 @@ Closes WriteFault cancelled held held' writes writes' text = GainedPart held hel
 Closes OutOfMemory cancelled held held' writes writes' text = (held' ≡ held) × (writes' ≡ writes)
 Closes ReadFault cancelled held held' writes writes' text = ⊥
 
+-- the same by how the lines ended: the final report comes only where all were read
+abbrev pub ClosesLines : LinesEnd → ConsoleEnd → Bool → Option (List ℕ) → Option (List ℕ) → ℕ → ℕ → List ℕ → Type 0
+ClosesLines lines.AllRead end cancelled held held' writes writes' text =
+    Closes end cancelled held held' writes writes' text
+ClosesLines lines.ReadFault end cancelled held held' writes writes' text =
+    (end ≡ ReadFault) × (held' ≡ held) × (writes' ≡ writes)
+ClosesLines lines.WriteFault end cancelled held held' writes writes' text =
+    (end ≡ WriteFault) × (held' ≡ held) × (writes' ≡ writes)
+ClosesLines lines.OutOfMemory end cancelled held held' writes writes' text =
+    (end ≡ OutOfMemory) × (held' ≡ held) × (writes' ≡ writes)
+
+-- and where a worker found no memory, that is the end
+abbrev pub ClosesRan : Bool → LinesEnd → ConsoleEnd → Bool → Option (List ℕ) → Option (List ℕ) → ℕ → ℕ → List ℕ
+    → Type 0
+ClosesRan true ended end cancelled held held' writes writes' text =
+    (end ≡ OutOfMemory) × (held' ≡ held) × (writes' ≡ writes)
+ClosesRan false ended end cancelled held held' writes writes' text =
+    ClosesLines ended end cancelled held held' writes writes' text

@@ -1,5 +1,5 @@
 -- What a console line asks for. 13 is the carriage return.
-use Rattle.std.specs.Prelude.{ℕ, ◌-◌, ◌≤◌, ◌&&◌, nat_le, nat_lt, List, [], ◌∷◌, length, take, drop, codes, Result, Ok, Err, if◌then◌else◌}
+use Rattle.std.specs.Prelude.{ℕ, Bool, true, false, ◌-◌, ◌≤◌, ◌&&◌, nat_le, nat_lt, List, [], ◌∷◌, length, take, drop, codes, Result, Ok, Err, if◌then◌else◌}
 use Rattle.std.specs.Char.{is_ascii_digit}
 use Rattle.std.specs.List.{list_all}
 use Rattle.std.specs.Str.{bytes_eq}
@@ -43,3 +43,12 @@ request_of line = if nat_lt MOST_LINE_BYTES (length line) then Long else request
 abbrev pub IsAskable : Request → Type 0
 IsAskable (Extend more) = (1 ≤ more) × (more ≤ MOST_SAMPLES)
 IsAskable other = Unit {0}
+
+-- whether a request is for a cancel
+abbrev pub is_cancel_request : Request → Bool
+is_cancel_request Cancel = true
+is_cancel_request other = false
+
+-- whether a line asks for a cancel
+abbrev pub asks_cancel : List ℕ → Bool
+asks_cancel line = is_cancel_request (request_of line)

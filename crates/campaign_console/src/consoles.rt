@@ -7,10 +7,15 @@ ghost use Rattle.system_model.specs.System.{zone_count};
 ghost use Rattle.report_text.specs.GateText.{interim_text};
 ghost use Rattle.campaign.specs.Passes.{block_of, pass_of, target_of, work_of, IsFirst, IsOf, IsWhole};
 ghost use Rattle.campaign_console.specs.LineEnds.{outside_of};
-ghost use Rattle.campaign_console.specs.Ends.{EndsAs};
+ghost use Rattle.campaign_console.specs.Together.{HasRan};
+ghost use Rattle.campaign_console.specs.Ends.{Closes, ClosesRan, EndsAs};
 
+use crate::lines::LinesEnd;
+use crate::sharing::SharedSamples;
+use crate::together::{Ran, run_together};
 use campaign::{Campaign, Finished, Pass};
-use ra_base::{Console, Pause, Sink};
+use ra_base::{Console, Pause, Sink, Text};
+use report_text::put_interim;
 use sample_run::SampleWork;
 use std::alloc::Global;
 use std::sync::Wait;
@@ -47,7 +52,7 @@ pub fn console<'a, R: Threads + Wait + Sync, C: Console + Send, O: Sink + Send, 
     rt: &R,
     alloc: Global,
     campaign: Campaign<SampleWork<'a>>,
-    pass: Pass<SampleWork<'a>>,
+    mut pass: Pass<SampleWork<'a>>,
     system: &'a System,
     seed: u64,
     workers: u8,
@@ -55,7 +60,6 @@ pub fn console<'a, R: Threads + Wait + Sync, C: Console + Send, O: Sink + Send, 
     out: &mut O,
     pause: &P,
 ) -> ConsoleDone<'a>
-    requires never { ⊥ }
     requires pass { IsOf campaign pass }
     requires first { IsFirst (target_of campaign) (block_of campaign) (pass_of pass) }
     requires system { (work_of campaign).system ≡ system.now }
@@ -73,5 +77,104 @@ pub fn console<'a, R: Threads + Wait + Sync, C: Console + Send, O: Sink + Send, 
         (outside_of C.left C.answers C.faults O.held O.faults lines.new out.new)
         (pass_of result.finished.last.value) }
 {
-    unreachable!()
+    let ran = run_shared(
+        rt, alloc, &campaign, &mut pass, system, seed, workers, lines, out, pause,
+    );
+    let Ok(finished) = campaign.finish(pass) else {
+        unreachable!()
+    };
+    let end = close(alloc, system, ran, &finished, out);
+    ConsoleDone { end, finished }
+}
+
+// The lines are answered while the workers run.
+fn run_shared<'a, R: Threads + Wait + Sync, C: Console + Send, O: Sink + Send, P: Pause + Sync>(
+    rt: &R,
+    alloc: Global,
+    campaign: &Campaign<SampleWork<'a>>,
+    pass: &mut Pass<SampleWork<'a>>,
+    system: &'a System,
+    seed: u64,
+    workers: u8,
+    lines: &mut C,
+    out: &mut O,
+    pause: &P,
+) -> Ran
+    requires pass { IsOf campaign.now pass.old }
+    requires opening { (pass_of pass.old).number ≡ 0 }
+    requires made { (pass_of pass.old).made ≡ 1 }
+    requires system { (work_of campaign.now).system ≡ system.now }
+    requires seed { (work_of campaign.now).seed ≡ seed }
+    ensures pass { IsOf campaign.now pass.new }
+    ensures opening { (pass_of pass.new).number ≡ 0 }
+    ensures ran { HasRan (work_of campaign.now) workers result
+        (outside_of C.left C.answers C.faults O.held O.faults lines.old out.old)
+        (outside_of C.left C.answers C.faults O.held O.faults lines.new out.new)
+        (pass_of pass.old) (pass_of pass.new) }
+{
+    let shared = SharedSamples {
+        campaign,
+        system,
+        seed,
+        pause,
+    };
+    run_together(rt, alloc, &shared, pass, workers, lines, out)
+}
+
+// How the console ends, with the final report where all lines were read and no worker was short of memory.
+fn close<'a, O: Sink>(
+    alloc: Global,
+    system: &System,
+    ran: Ran,
+    finished: &Finished<SampleWork<'a>>,
+    out: &mut O,
+) -> ConsoleEnd
+    requires zones { length finished.now.sum.zones ≡ zone_count system.now }
+    ensures { ClosesRan ran.short ran.lines result finished.now.gate.cancelled
+        (O.held out.old) (O.held out.new) (O.faults out.old) (O.faults out.new)
+        (interim_text system.now.zone_names finished.now.gate finished.now.runs finished.now.sum) }
+{
+    if ran.short {
+        return ConsoleEnd::OutOfMemory;
+    }
+    match ran.lines {
+        LinesEnd::AllRead => write_final(alloc, system, finished, out),
+        LinesEnd::ReadFault => ConsoleEnd::ReadFault,
+        LinesEnd::WriteFault => ConsoleEnd::WriteFault,
+        LinesEnd::OutOfMemory => ConsoleEnd::OutOfMemory,
+    }
+}
+
+// Writes the final report.
+fn write_final<'a, O: Sink>(
+    alloc: Global,
+    system: &System,
+    finished: &Finished<SampleWork<'a>>,
+    out: &mut O,
+) -> ConsoleEnd
+    requires zones { length finished.now.sum.zones ≡ zone_count system.now }
+    ensures { Closes result finished.now.gate.cancelled
+        (O.held out.old) (O.held out.new) (O.faults out.old) (O.faults out.new)
+        (interim_text system.now.zone_names finished.now.gate finished.now.runs finished.now.sum) }
+{
+    let mut text = Text::new(alloc);
+    if put_interim(
+        &mut text,
+        system,
+        finished.gate,
+        &finished.runs,
+        &finished.sum,
+    )
+    .is_err()
+    {
+        return ConsoleEnd::OutOfMemory;
+    }
+    if out.write(text.bytes()).is_err() {
+        return ConsoleEnd::WriteFault;
+    }
+    if finished.gate.cancelled {
+        ConsoleEnd::Cancelled
+    } else {
+        ConsoleEnd::Finished
+    }
 }
