@@ -1,9 +1,14 @@
-ghost use Rattle.std.specs.Prelude.{◌≡◌, ◌+◌, ◌<◌, ◌≤◌, [], All, IfOk, OnOk, length};
+ghost use Rattle.std.specs.Prelude.{◌≡◌, ◌+◌, ◌<◌, ◌≤◌, ◌↔◌, [], ◌∷◌, All, IfOk, IfSome, OnOk, length};
+ghost use Rattle.campaign_core.specs.Ranges.{range};
+ghost use Rattle.campaign_core.specs.Shares.{IsShare};
 ghost use Rattle.system_model.specs.System.{zone_count, interface_count};
+ghost use Rattle.sample_totals.specs.Estimates.{IsPrecision};
+ghost use Rattle.sample_run.specs.SampleWorks.{IsWorkOf};
 
-use crate::Runner;
-use ra_base::{Amounts, OutOfMemory};
-use sample_totals::{Part, Totals};
+use crate::{Runner, SampleWork};
+use campaign_core::{Job, Share, Work};
+use ra_base::{Amounts, OutOfMemory, Text};
+use sample_totals::{HourOutcome, Part, Recorder, RecorderError, Totals};
 use std::alloc::Global;
 use std::process::Abort;
 use std::test::Fail;
@@ -575,5 +580,226 @@ fn a_mixed_study_agrees_with_an_independent_program(rt: HostRuntime) -> Result<(
         ],
     };
     agrees(&rt, rt.alloc(), &case)?;
+    Ok(())
+}
+
+// The sum of so many samples from one on, as any who share out work come to it.
+fn ran<W: Work, J: Job<W> + Send>(
+    alloc: Global,
+    job: &mut J,
+    first: u32,
+    count: u32,
+) -> Result<W::Sum, OutOfMemory>
+    requires { IsShare (range first count) }
+    ensures sum { IfOk result (λ sum. (work : W) → J.serves job.old work
+        → W.stands work sum (range first count ∷ [])) }
+    ensures same { (work : W) → (J.serves job.old work ↔ J.serves job.new work) }
+{
+    let done = match job.run(alloc, Share::of(first, count)) {
+        Ok(done) => done,
+        Err((share, none)) => {
+            share.abandon();
+            return Err(none);
+        }
+    };
+    let (share, sum) = done.into_parts();
+    share.abandon();
+    Ok(sum)
+}
+
+// The sum of the first four samples by two shares, the later one first.
+fn gathered<W: Work, J: Job<W> + Send>(
+    alloc: Global,
+    work: &W,
+    job: &mut J,
+) -> Result<W::Sum, OutOfMemory>
+    requires { J.serves job.old work.now }
+    ensures { IfOk result (λ sum. W.stands work.now sum (range 2 2 ∷ range 0 2 ∷ [])) }
+{
+    let later = ran(alloc, job, 2, 2)?;
+    let earlier = ran(alloc, job, 0, 2)?;
+    let mut sum = work.copy(alloc, &later)?;
+    work.merge(&mut sum, &earlier)?;
+    Ok(sum)
+}
+
+// Whether they are enough.
+fn are_enough<W: Work, J: Job<W> + Send>(
+    alloc: Global,
+    work: &W,
+    job: &mut J,
+) -> Result<bool, OutOfMemory>
+    requires { J.serves job.old work.now }
+{
+    let sum = gathered(alloc, work, job)?;
+    Ok(work.enough(&sum))
+}
+
+// The totals of the first four samples.
+fn first_four<'a>(
+    alloc: Global,
+    work: &SampleWork<'a>,
+    runner: &mut Runner<'a>,
+) -> Result<Totals, OutOfMemory>
+    requires { IsWorkOf runner.old work.now }
+{
+    gathered(alloc, work, runner)
+}
+
+// The same, of a system.
+fn four_of(alloc: Global, system: &System) -> Result<Totals, OutOfMemory> {
+    let mut runner = Runner::new(alloc, system, 1)?;
+    let work = SampleWork::new(system, 1, None);
+    first_four(alloc, &work, &mut runner)
+}
+
+// Whether these are enough.
+fn four_are_enough<'a>(
+    alloc: Global,
+    work: &SampleWork<'a>,
+    runner: &mut Runner<'a>,
+) -> Result<bool, OutOfMemory>
+    requires { IsWorkOf runner.old work.now }
+{
+    are_enough(alloc, work, runner)
+}
+
+// Whether these are enough for a precision.
+fn enough_at(alloc: Global, system: &System, precision: Option<u16>) -> Result<bool, OutOfMemory>
+    requires { IfSome precision IsPrecision }
+{
+    let mut runner = Runner::new(alloc, system, 1)?;
+    let work = SampleWork::new(system, 1, precision);
+    four_are_enough(alloc, &work, &mut runner)
+}
+
+// What may go to another thread, and be shared by threads.
+fn may_be_sent<T: Send>(_value: &T) {}
+
+fn may_be_shared<T: Sync>(_value: &T) {}
+
+fn go_to_threads(alloc: Global, system: &System) -> Result<(), OutOfMemory> {
+    let runner = Runner::new(alloc, system, 1)?;
+    may_be_sent(&runner);
+    may_be_shared(&runner);
+    let work = SampleWork::new(system, 1, None);
+    may_be_sent(&work);
+    may_be_shared(&work);
+    Ok(())
+}
+
+// The totals of four samples, and whether they are enough for some precisions.
+fn four_are_known(rt: &impl Abort, alloc: Global, system: &System) -> Result<(), OutOfMemory> {
+    let sum = four_of(alloc, system)?;
+    may_be_sent(&sum);
+    assert_eq!(rt; sum.samples(), 4);
+    has_sums(rt, &sum, [6, 4, 4, 90]);
+    has_cuts(rt, &sum, &[(1, 6, 90)]);
+    Ok(())
+}
+
+// The sum of squares is 2,100, and 10^6 * (4 * 2,100 - 90^2) is at most 112^2 * 90^2 * 3 and above that with 111.
+// By the hours 333 would be too few.
+fn enough_is_known(rt: &impl Abort, alloc: Global, system: &System) -> Result<(), OutOfMemory> {
+    assert!(rt; enough_at(alloc, system, Some(112))?);
+    assert!(rt; !enough_at(alloc, system, Some(111))?);
+    assert!(rt; enough_at(alloc, system, None)?);
+    Ok(())
+}
+
+// No samples are none.
+fn nothing_is_none(rt: &impl Abort, alloc: Global, system: &System) -> Result<(), OutOfMemory> {
+    let work = SampleWork::new(system, 1, None);
+    let sum = work.empty(alloc)?;
+    assert_eq!(rt; sum.samples(), 0);
+    Ok(())
+}
+
+#[test]
+fn shares_in_another_order_give_the_same_totals(rt: HostRuntime) -> Result<(), Fail> {
+    // A unit of 10 MW that changes its state each hour. Of the first four samples under this seed the last one
+    // starts out, by an independent program: it lacks 10, 10 and 10 MW, and the others 20 MW in one hour.
+    let plan = Plan {
+        zones: 1,
+        units: &[unit(0, 10, 1_000_000_000, 1_000_000_000)],
+        interfaces: &[],
+        lines: &[],
+        storages: &[],
+        hours: 3,
+        load: &[10, 20, 10],
+        variable: &[0, 0, 0],
+    };
+    let alloc = rt.alloc();
+    let system = system_of(&rt, alloc, &plan)?;
+    nothing_is_none(&rt, alloc, &system)?;
+    four_are_known(&rt, alloc, &system)?;
+    enough_is_known(&rt, alloc, &system)?;
+    go_to_threads(alloc, &system)?;
+    may_be_shared(&system);
+    Ok(())
+}
+
+// Marks each hour: one with a cut, and one without.
+#[derive(Drop)]
+struct Marks {
+    text: Text,
+}
+
+impl Recorder for Marks {
+    ghost use Rattle.std.specs.Prelude.{◌==◌, [], ◌∷◌, if◌then◌else◌};
+
+    ghost seen = { λ marks. record {
+      kind = 9;
+      line = λ outcome. (if outcome.cut == 0 then 46 else 33) ∷ [];
+      text = marks.text;
+    } };
+
+    ghost refusals = { λ marks. 0 };
+
+    fn kind(&self) -> u8 {
+        9
+    }
+
+    fn hour(&mut self, outcome: &HourOutcome) -> Result<(), RecorderError> {
+        let mark = if outcome.cut == 0 { b'.' } else { b'!' };
+        match self.text.push(&[mark]) {
+            Ok(()) => Ok(()),
+            Err(OutOfMemory) => Err(RecorderError::OutOfMemory),
+        }
+    }
+
+    fn text(&self) -> &[u8] {
+        self.text.bytes()
+    }
+}
+
+#[test]
+fn a_trace_gives_each_hour_to_each_recorder(rt: HostRuntime) -> Result<(), Fail> {
+    // In the second hour the storage covers the whole load.
+    let plan = Plan {
+        zones: 1,
+        units: &[],
+        interfaces: &[],
+        lines: &[],
+        storages: &[LOSSY],
+        hours: 4,
+        load: &[30, 20, 30, 30],
+        variable: &[0, 0, 0, 0],
+    };
+    let alloc = rt.alloc();
+    let system = system_of(&rt, alloc, &plan)?;
+    let mut runner = Runner::new(alloc, &system, 1)?;
+    let mut recorders = [
+        Marks {
+            text: Text::new(alloc),
+        },
+        Marks {
+            text: Text::new(alloc),
+        },
+    ];
+    runner.trace(0, &mut recorders)?;
+    for recorder in &recorders {
+        assert_eq!(rt; recorder.text(), b"!.!!".as_slice());
+    }
     Ok(())
 }
