@@ -68,13 +68,7 @@ pub(crate) fn run_console<
 }
 
 // Runs a line: reads the folder's tables, and answers lines over the samples of their system.
-fn run<
-    T: Threads + Wait + Sync,
-    S: Shelf,
-    C: Console + Send,
-    O: Sink + Send,
-    P: Pause + Sync,
->(
+fn run<T: Threads + Wait + Sync, S: Shelf, C: Console + Send, O: Sink + Send, P: Pause + Sync>(
     rt: &T,
     alloc: Global,
     line: &Line,

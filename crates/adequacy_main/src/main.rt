@@ -45,12 +45,7 @@ fn run<
     C: Console + Send,
     O: Sink + Send,
     E: Sink,
->(
-    rt: &R,
-    console: &mut C,
-    out: &mut O,
-    err: &mut E,
-) -> Result<Status, Unread> {
+>(rt: &R, console: &mut C, out: &mut O, err: &mut E) -> Result<Status, Unread> {
     let alloc = rt.alloc();
     let words = words_of(rt)?;
     let recorders: [Box<dyn Recorder>; 4] = [

@@ -95,7 +95,10 @@ impl<F: Read> Lines<F> {
                 return Err(ConsoleError::Fault);
             }
             keep(&mut line, &rest[..count])?;
-            self.start = self.start.saturating_add(count).saturating_add(usize::from(end.is_some()));
+            self.start = self
+                .start
+                .saturating_add(count)
+                .saturating_add(usize::from(end.is_some()));
             if end.is_some() {
                 return cut(alloc, &line);
             }

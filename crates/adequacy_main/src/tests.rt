@@ -67,7 +67,12 @@ fn real_console(rt: HostRuntime) -> Result<(), Fail> {
     text.extend_from_slice(b"\nseal")?;
     fs::write(&rt, "lines", text.as_slice())?;
     let mut console = StdConsole::new(fs::open(&rt, "lines")?);
-    for (length, first) in [(9, b"progress\r".as_slice()), (0, b""), (4_097, b"xxx"), (4, b"seal")] {
+    for (length, first) in [
+        (9, b"progress\r".as_slice()),
+        (0, b""),
+        (4_097, b"xxx"),
+        (4, b"seal"),
+    ] {
         let line = console.line(alloc).map_err(|_| "line")?.ok_or("end")?;
         assert_eq!(rt; line.bytes().len(), length);
         assert!(rt; line.bytes().starts_with(first));

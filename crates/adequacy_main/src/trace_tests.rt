@@ -2,7 +2,9 @@ ghost use Rattle.std.specs.Prelude.{◌≡◌, ◌++◌, OnOk, OnErr, codes, fal
 ghost use Rattle.sample_totals.specs.Recorders.{Seen, is_refused};
 
 use adequacy::adequacy;
-use ra_base::{MemoryConsole, MemoryShelf, MemorySink, NoPause, OutOfMemory, Status, TableName, Text};
+use ra_base::{
+    MemoryConsole, MemoryShelf, MemorySink, NoPause, OutOfMemory, Status, TableName, Text,
+};
 use result_recorders::{BindingCut, Plain, RefusingPlain, Shortfall, StorageLevel};
 use sample_totals::{HourOutcome, Recorder, RecorderError};
 use std::alloc::Global;

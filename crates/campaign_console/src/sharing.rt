@@ -88,8 +88,7 @@ pub(crate) struct SharedSamples<'c, 'a, P> {
 }
 
 impl<'c, 'a, P: Pause> Sharing<Pass<SampleWork<'a>>, Pass<SampleWork<'a>>>
-    for SharedSamples<'c, 'a, P>
-{
+    for SharedSamples<'c, 'a, P> {
     ghost use Rattle.std.specs.Prelude.{◌≡◌};
     ghost use Rattle.campaign.specs.Passes.{pass_of, work_of, IsOf};
     ghost use Rattle.campaign_console.specs.Together.{IsSampled, SplitsOff, Worked, HasRan};

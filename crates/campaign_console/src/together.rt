@@ -28,15 +28,7 @@ pub(crate) fn run_together<
     S: Sharing<K, M> + Sync,
     C: Console + Send,
     O: Sink + Send,
->(
-    rt: &R,
-    alloc: Global,
-    shared: &S,
-    pass: &mut K,
-    workers: u8,
-    lines: &mut C,
-    out: &mut O,
-) -> Ran
+>(rt: &R, alloc: Global, shared: &S, pass: &mut K, workers: u8, lines: &mut C, out: &mut O) -> Ran
     requires pass { S.keeps shared.now pass.old }
     requires room { HasRoom (S.made pass.old) workers }
     ensures pass { S.keeps shared.now pass.new }

@@ -154,8 +154,7 @@ pub traced-last : (system : SystemParts) (seed sample count : ℕ) (moment : Mom
     → IsTraced system seed sample moment count before now
     → HasLines system seed sample before now
 traced-last system seed sample count moment before now all is =
-    let part = subst (IsPart system seed sample is.run) all is.part in
-    (
+    let part = subst (IsPart system seed sample is.run) all is.part in (
       is.run,
       run-only system seed sample is.run (record { hours = part.size; each = part.each }),
       record { each = part.least },

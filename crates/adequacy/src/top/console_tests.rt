@@ -4,8 +4,10 @@ ghost use Rattle.ra_base.specs.ConsoleLines.{IsShort, is_line_fault};
 
 use super::adequacy;
 use super::tests::{ALL_SHORT, ALWAYS_OUT, DAY, NEVER_OUT, ZONE, shelf_of, words_of};
-use ra_base::{Console, ConsoleError, LineLog, LineNote, MemoryConsole, MemorySink, NoPause, Pause};
-use ra_base::{Status, TableName, Text};
+use ra_base::{
+    Console, ConsoleError, LineLog, LineNote, MemoryConsole, MemorySink, NoPause, Pause, Status,
+    TableName, Text,
+};
 use sample_totals::Recorder;
 use std::alloc::Global;
 use std::sync::Wait;
@@ -92,7 +94,14 @@ fn lines_are_answered(rt: HostRuntime) -> Result<(), Fail> {
     let alloc = rt.alloc();
     let mut lines = MemoryConsole::new(alloc);
     push_lines(alloc, &mut lines)?;
-    let told = tell(&rt, alloc, &[ZONE, NEVER_OUT, DAY], FIVE_SAMPLES, &mut lines, &NoPause)?;
+    let told = tell(
+        &rt,
+        alloc,
+        &[ZONE, NEVER_OUT, DAY],
+        FIVE_SAMPLES,
+        &mut lines,
+        &NoPause,
+    )?;
     assert_eq!(rt; told.status, Status::Done);
     assert_eq!(rt; told.out.bytes(), ANSWERS.as_bytes());
     assert_eq!(rt; told.err.bytes(), b"".as_slice());
@@ -106,7 +115,14 @@ fn a_report_comes_first(rt: HostRuntime) -> Result<(), Fail> {
     let mut lines = MemoryConsole::new(alloc);
     lines.push(b"report")?;
     push_lines(alloc, &mut lines)?;
-    let told = tell(&rt, alloc, &[ZONE, NEVER_OUT, DAY], FIVE_SAMPLES, &mut lines, &NoPause)?;
+    let told = tell(
+        &rt,
+        alloc,
+        &[ZONE, NEVER_OUT, DAY],
+        FIVE_SAMPLES,
+        &mut lines,
+        &NoPause,
+    )?;
     assert_eq!(rt; told.status, Status::Done);
     assert!(rt; told.out.bytes().starts_with(b"gate next "));
     assert!(rt; told.out.bytes().ends_with(ANSWERS.as_bytes()));
@@ -118,7 +134,14 @@ fn a_cancel_is_told(rt: HostRuntime) -> Result<(), Fail> {
     let alloc = rt.alloc();
     let mut lines = MemoryConsole::new(alloc);
     lines.push(b"cancel")?;
-    let told = tell(&rt, alloc, &[ZONE, NEVER_OUT, DAY], FIVE_SAMPLES, &mut lines, &NoPause)?;
+    let told = tell(
+        &rt,
+        alloc,
+        &[ZONE, NEVER_OUT, DAY],
+        FIVE_SAMPLES,
+        &mut lines,
+        &NoPause,
+    )?;
     assert_eq!(rt; told.status, Status::Cancelled);
     assert!(rt; told.out.bytes().starts_with(b"cancelled\ngate next "));
     assert_eq!(rt; told.err.bytes(), b"cancelled\n".as_slice());
@@ -132,7 +155,14 @@ fn a_failed_read_ends_it(rt: HostRuntime) -> Result<(), Fail> {
     lines.push(b"extend 1")?;
     lines.push(b"seal")?;
     lines.fail(2)?;
-    let told = tell(&rt, alloc, &[ZONE, NEVER_OUT, DAY], FIVE_SAMPLES, &mut lines, &NoPause)?;
+    let told = tell(
+        &rt,
+        alloc,
+        &[ZONE, NEVER_OUT, DAY],
+        FIVE_SAMPLES,
+        &mut lines,
+        &NoPause,
+    )?;
     assert_eq!(rt; told.status, Status::ReadFault);
     assert_eq!(rt; told.out.bytes(), b"target 6\n".as_slice());
     assert_eq!(rt; told.err.bytes(), b"read fault\n".as_slice());
@@ -237,9 +267,19 @@ fn workers_run_while_lines_are_read(rt: HostRuntime) -> Result<(), Fail> {
         calls: 0,
         log: LineLog::new(),
     };
-    let pause = HoldingPause { signs: &signs, from: 0 };
+    let pause = HoldingPause {
+        signs: &signs,
+        from: 0,
+    };
     let options = ["--samples", "4", "--block", "2", "--workers", "2"];
-    let told = tell(&rt, alloc, &[ZONE, ALWAYS_OUT, DAY], &options, &mut lines, &pause)?;
+    let told = tell(
+        &rt,
+        alloc,
+        &[ZONE, ALWAYS_OUT, DAY],
+        &options,
+        &mut lines,
+        &pause,
+    )?;
     assert_eq!(rt; told.status, Status::Done);
     assert_eq!(rt; signs.in_vain.load(Ordering::SeqCst), 0);
     assert!(rt; told.out.bytes().ends_with(ALL_FOUR.as_bytes()));
@@ -258,9 +298,19 @@ fn a_report_sums_what_was_deposited(rt: HostRuntime) -> Result<(), Fail> {
         calls: 0,
         log: LineLog::new(),
     };
-    let pause = HoldingPause { signs: &signs, from: 2 };
+    let pause = HoldingPause {
+        signs: &signs,
+        from: 2,
+    };
     let options = ["--samples", "4", "--block", "2", "--workers", "1"];
-    let told = tell(&rt, alloc, &[ZONE, ALWAYS_OUT, DAY], &options, &mut lines, &pause)?;
+    let told = tell(
+        &rt,
+        alloc,
+        &[ZONE, ALWAYS_OUT, DAY],
+        &options,
+        &mut lines,
+        &pause,
+    )?;
     let wanted = format!(in alloc; "{FIRST_TWO}{ALL_SHORT}{ALL_FOUR}")?;
     assert_eq!(rt; told.status, Status::Done);
     assert_eq!(rt; signs.in_vain.load(Ordering::SeqCst), 0);

@@ -1,7 +1,9 @@
 ghost use Rattle.std.specs.Prelude.{Some};
 
 use super::adequacy;
-use ra_base::{MemoryConsole, MemoryShelf, MemorySink, NoPause, Sink, SinkFault, Status, TableName};
+use ra_base::{
+    MemoryConsole, MemoryShelf, MemorySink, NoPause, Sink, SinkFault, Status, TableName,
+};
 use sample_totals::Recorder;
 use std::alloc::Global;
 use std::test::Fail;

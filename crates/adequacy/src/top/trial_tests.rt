@@ -1,7 +1,9 @@
 //! Trials and a planner's folder: the same bytes for every number of workers.
 
 use super::adequacy;
-use ra_base::{MemoryConsole, MemoryShelf, MemorySink, NoPause, Status, TableBytes, TableName, Text};
+use ra_base::{
+    MemoryConsole, MemoryShelf, MemorySink, NoPause, Status, TableBytes, TableName, Text,
+};
 use sample_totals::Recorder;
 use std::alloc::Global;
 use std::sync::Wait;
@@ -31,15 +33,7 @@ fn written<T: Threads + Wait + Sync>(
     let mut lines = MemoryConsole::new(alloc);
     let mut none: Vec<Box<dyn Recorder>> = Vec::new(alloc);
     let status = adequacy(
-        rt,
-        alloc,
-        &list,
-        shelf,
-        &mut lines,
-        &mut out,
-        &mut err,
-        &NoPause,
-        &mut none,
+        rt, alloc, &list, shelf, &mut lines, &mut out, &mut err, &NoPause, &mut none,
     );
     match status {
         Status::Done => Ok(out),
