@@ -1,5 +1,5 @@
 -- Calls that a pass has behind its own: how they are put together.
-use Rattle.std.proofs.Common.{◌≡◌, ℕ, List, [], ◌∷◌, ◌++◌, refl, ap, sym, ◌∙◌, subst, append_assoc}
+use Rattle.std.proofs.Common.{◌≡◌, List, [], ◌∷◌, ◌++◌, refl, ap, sym, ◌∙◌, subst, append_assoc}
 use Rattle.std.proofs.lemmas.List.{append-nil}
 use mathlib.Core.List.{IsPrefix}
 use Rattle.campaign_core.specs.declared.gate.Gate.{Gate}
@@ -9,7 +9,6 @@ use Rattle.campaign_core.specs.declared.call.Entry.{Entry}
 use Rattle.campaign_core.specs.History.{entry}
 use Rattle.campaign_core.proofs.HistoryLaws.{prefix_self, prefix_trans, prefix_append}
 use Rattle.turn_book.specs.declared.view.View.{View}
-use Rattle.turn_book.specs.Views.{IsSameSeat}
 use Rattle.campaign.specs.Passes.{Saw, Says, Moves}
 use Rattle.campaign_workers.proofs.WorkLaws.{same_then, same_says, seen_says, moved_saw}
 use Rattle.campaign_console.specs.LineTexts.{made}

@@ -1,5 +1,5 @@
 -- What a request is answered by a pass, by what its call came to.
-use Rattle.std.proofs.Common.{◌≡◌, ℕ, List, [], ◌∷◌, ◌++◌, map, refl, ◌∙◌}
+use Rattle.std.proofs.Common.{◌≡◌, ℕ, List, [], map, refl, ◌∙◌}
 use Rattle.campaign_core.specs.declared.gate.Gate.{Gate}
 use Rattle.campaign_core.specs.declared.run.Run.{Run}
 use Rattle.campaign_core.specs.declared.call.Call.{Call}

@@ -1,16 +1,15 @@
 -- The entries that lines have in a history are calls of the opening pass, which give and deposit nothing.
-use Rattle.std.proofs.Common.{◌≡◌, ◌≢◌, ◌==◌, ◌||◌, ◌&&◌, not, inl, inr, ℕ, Bool, true, false, cond, List, [], ◌∷◌, ◌++◌, refl, ap, sym, ◌∙◌, subst, append_assoc}
+use Rattle.std.proofs.Common.{◌≡◌, ◌≢◌, ◌==◌, ◌||◌, ◌&&◌, not, ℕ, Bool, true, false, cond, List, [], ◌∷◌, ◌++◌, refl, ap, sym, ◌∙◌, subst}
 use Rattle.std.proofs.lemmas.Bool.{ne_eqb}
 use Rattle.std.proofs.lemmas.List.{append-nil}
 use Rattle.std.specs.List.{list_any}
-use Rattle.campaign_core.specs.declared.run.SampleRange.{SampleRange}
 use Rattle.campaign_core.specs.declared.call.Call.{Call}
 use Rattle.campaign_core.specs.declared.call.Call.TheVariants as call
 use Rattle.campaign_core.specs.declared.call.Reply.{Reply}
 use Rattle.campaign_core.specs.declared.call.Reply.TheVariants as reply
 use Rattle.campaign_core.specs.declared.call.Entry.{Entry}
 use Rattle.campaign_core.specs.Ranges.{has_range}
-use Rattle.campaign_core.specs.History.{entry, range_in, deposit_in, is_cancel, ranges_of, deposits_of, out_of, calls_of}
+use Rattle.campaign_core.specs.History.{range_in, deposit_in, is_cancel, ranges_of, deposits_of, out_of, calls_of}
 use Rattle.campaign_core.proofs.HistoryLaws.{ranges-nil, ranges-append, ranges-one, deposits-nil, deposits-append, deposits-one, calls-nil, calls-append}
 use Rattle.campaign_core.proofs.WithoutLaws.{has-without}
 use Rattle.turn_book.specs.declared.view.View.{View}

@@ -1,9 +1,8 @@
 -- What stands at the end, by what the lines and the workers did together and by the whole history.
-use Rattle.std.proofs.Common.{◌≡◌, ◌≢◌, ◌||◌, ◌==◌, ◌&&◌, not, ◌⊎◌, ℕ, zero, suc, ◌+◌, ◌-◌, ◌≤◌, ◌<◌, inl, inr, Bool, true, false, cond, List, [], ◌∷◌, ◌++◌, length, map, Option, refl, ap, sym, ◌∙◌, subst, arith, append_assoc}
+use Rattle.std.proofs.Common.{◌≡◌, ◌≢◌, ◌||◌, ◌==◌, not, ◌⊎◌, ℕ, zero, suc, ◌+◌, ◌-◌, ◌≤◌, ◌<◌, inl, inr, Bool, true, false, cond, List, [], ◌∷◌, ◌++◌, map, Option, refl, ap, sym, ◌∙◌, subst, arith, append_assoc}
 use Rattle.std.proofs.lemmas.Bool.{and_parts, eq-eqb, eqb-true, eqb-false, false≢true, false_from_ne_true, cases_Bool, or_left, or_right}
 use Rattle.std.proofs.lemmas.List.{append-nil}
-use mathlib.Core.List.{IsPrefix}
-use Rattle.ra_base.specs.Causes.{Counts, Gained, GainedPart}
+use Rattle.ra_base.specs.Causes.{Counts, Gained}
 use Rattle.campaign_core.specs.declared.gate.Gate.{Gate}
 use Rattle.campaign_core.specs.declared.run.SampleRange.{SampleRange}
 use Rattle.campaign_core.specs.declared.run.Run.{Run}
@@ -12,21 +11,21 @@ use Rattle.campaign_core.specs.declared.call.Call.TheVariants.{Claim, Extend, Se
 use Rattle.campaign_core.specs.declared.call.Call.TheVariants.{Progress as AskProgress, Interim as AskInterim}
 use Rattle.campaign_core.specs.declared.call.Reply.{Reply}
 use Rattle.campaign_core.specs.declared.call.Entry.{Entry}
-use Rattle.campaign_core.specs.Ranges.{range, run, is_same, samples_of, has_range, total, AreSame, runs_of}
+use Rattle.campaign_core.specs.Ranges.{range, is_same, samples_of, has_range, total, AreSame, runs_of}
 use Rattle.campaign_core.specs.Joining.{Spaced}
-use Rattle.campaign_core.specs.History.{entry, is_seal, is_cancel, raised_in, reply_of, gate_of, ranges_of, deposits_of, out_of, calls_of, IsLegal}
+use Rattle.campaign_core.specs.History.{is_seal, is_cancel, raised_in, reply_of, gate_of, ranges_of, deposits_of, out_of, calls_of, IsLegal}
 use Rattle.campaign_core.specs.Machine.{gate_after}
 use Rattle.campaign_core.proofs.Totals.{total-nil, total-one, weight-none, same_sym}
 use Rattle.campaign_core.proofs.MachineLaws.{extend_cases}
 use Rattle.campaign_core.proofs.RunLaws.{runs_joined}
-use Rattle.campaign_core.proofs.HistoryLaws.{gate_push, ranges-nil, calls-nil, calls-append}
+use Rattle.campaign_core.proofs.HistoryLaws.{gate_push, ranges-nil, calls-append}
 use Rattle.campaign_core.proofs.WithoutLaws.{is_same-self, has-nil, has-cons, has-without}
 use Rattle.campaign_core.proofs.GivenLaws.{some_owner, owned_given, all_deposited}
 use Rattle.turn_book.specs.declared.view.View.{View}
 use Rattle.turn_book.specs.Views.{IsSound}
 use Rattle.turn_book.proofs.SoundLaws.{own_deposit, gate_seen}
 use Rattle.campaign.specs.Passes.{IsFirst, IsWhole}
-use Rattle.campaign_workers.specs.Working.{is_work, AreWork, SameOut}
+use Rattle.campaign_workers.specs.Working.{is_work, AreWork}
 use Rattle.sample_totals.specs.Totals.{Sheet}
 use Rattle.sample_run.specs.SampleWorks.{WorkTerms, StandsFor}
 use Rattle.report_text.specs.GateText.{interim_text}
@@ -36,9 +35,8 @@ use Rattle.campaign_console.specs.declared.lines.LinesEnd.TheVariants as lines
 use Rattle.campaign_console.specs.declared.consoles.ConsoleEnd.{ConsoleEnd}
 use Rattle.campaign_console.specs.declared.consoles.ConsoleEnd.TheVariants.{Finished, Cancelled, ReadFault, WriteFault, OutOfMemory}
 use Rattle.campaign_console.specs.LineEnds.{Heard, Outside, LinesRead}
-use Rattle.campaign_console.specs.Together.{Drains, HasRan}
-use Rattle.campaign_console.specs.LineCalls.{asks_cancel}
-use Rattle.campaign_console.specs.Ends.{first_runs, Writes, IsFinal, IsComplete, Reports, Fails, EndsAs, Closes, ClosesLines, ClosesRan}
+use Rattle.campaign_console.specs.Together.{HasRan}
+use Rattle.campaign_console.specs.Ends.{first_runs, IsFinal, IsComplete, Reports, EndsAs, ClosesRan}
 use Rattle.campaign_console.proofs.CallLaws.{have_cancel, AreAsks, read_asks, read_cancels, asks_own, asks_other}
 
 -- ---- runs of the first samples

@@ -1,5 +1,5 @@
 -- What callers need of lines and ends.
-use Rattle.std.proofs.Common.{◌≡◌, ℕ, ◌+◌, ◌≤◌, ◌<◌, Bool, true, false, List, [], ◌∷◌, ◌++◌, length, map, take, refl, ap, sym, ◌∙◌, subst, inl, inr, arith}
+use Rattle.std.proofs.Common.{◌≡◌, ℕ, ◌+◌, ◌<◌, Bool, List, [], ◌∷◌, ◌++◌, length, map, refl, ap, sym, ◌∙◌, subst, inl, inr, arith}
 use Rattle.std.proofs.lemmas.Bool.{cases_lt, lt-ltb}
 use Rattle.std.proofs.lemmas.List.{take_all, length-take-le}
 use Rattle.ra_base.specs.Causes.{Gained}
@@ -10,7 +10,7 @@ use Rattle.turn_book.specs.declared.view.View.{View}
 use Rattle.sample_run.specs.SampleWorks.{WorkTerms}
 use Rattle.campaign_console.specs.declared.requests.Request.TheVariants.{Long}
 use Rattle.campaign_console.specs.LineCalls.{request_of}
-use Rattle.campaign_console.specs.LineTexts.{IsReplied, IsAnswered, AreAnswered}
+use Rattle.campaign_console.specs.LineTexts.{IsReplied, AreAnswered}
 use Rattle.campaign_console.specs.LineEnds.{Outside}
 use Rattle.campaign_console.specs.Ends.{Reports}
 use Rattle.campaign_console.proofs.LineLaws.{gained_then}

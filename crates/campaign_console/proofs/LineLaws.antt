@@ -1,17 +1,16 @@
 -- How what came of lines is put together, and what of it a reader of the history needs.
-use Rattle.std.proofs.Common.{◌≡◌, ◌⊎◌, inl, inr, ℕ, ◌+◌, Bool, true, false, List, [], ◌∷◌, ◌++◌, length, map, Option, Some, None, Result, Ok, Err, IfSome, OnOk, is_err, refl, ap, sym, ◌∙◌, subst, arith, append_assoc}
+use Rattle.std.proofs.Common.{◌≡◌, inl, inr, ℕ, true, false, List, [], ◌∷◌, ◌++◌, map, Option, Some, None, Result, Ok, Err, OnOk, is_err, refl, ap, sym, ◌∙◌, subst, append_assoc}
 use Rattle.std.proofs.lemmas.Bool.{false≢true}
 use Rattle.std.proofs.lemmas.List.{append-nil, map-append}
 use Rattle.ra_base.specs.Causes.{Counts, Gained, GainedPart}
-use Rattle.ra_base.specs.ConsoleLines.{cut_line, TakesLine, LinesTold, is_line_fault}
-use Rattle.ra_base.specs.declared.console.ConsoleError.{ConsoleError}
+use Rattle.ra_base.specs.ConsoleLines.{cut_line, LinesTold}
 use Rattle.ra_base.specs.declared.console.ConsoleError.TheVariants as unread
 use Rattle.campaign_core.specs.declared.call.Entry.{Entry}
 use Rattle.campaign_core.specs.declared.call.Reply.TheVariants.{Marked}
 use Rattle.campaign_core.specs.Ranges.{samples_of}
 use Rattle.turn_book.specs.declared.view.View.{View}
 use Rattle.campaign.specs.Passes.{Says}
-use Rattle.sample_run.specs.SampleWorks.{WorkTerms, StandsFor}
+use Rattle.sample_run.specs.SampleWorks.{WorkTerms}
 use Rattle.sample_run.proofs.WorkLaws.{stands_zones}
 use Rattle.campaign_console.specs.declared.requests.Request.{Request}
 use Rattle.campaign_console.specs.declared.requests.Request.TheVariants as request
@@ -20,9 +19,9 @@ use Rattle.campaign_console.specs.declared.answers.Answer.TheVariants as answer
 use Rattle.campaign_console.specs.declared.lines.LinesEnd.{LinesEnd}
 use Rattle.campaign_console.specs.declared.lines.LinesEnd.TheVariants.{AllRead, ReadFault, WriteFault, OutOfMemory}
 use Rattle.campaign_console.specs.LineCalls.{request_of}
-use Rattle.campaign_console.specs.LineTexts.{answer_text, made, IsReplied, HasZones, IsAnswered, Begins, AreAnswered}
+use Rattle.campaign_console.specs.LineTexts.{answer_text, made, IsReplied, HasZones, IsAnswered, AreAnswered}
 use Rattle.campaign_console.specs.Asks.{Adds, Replied}
-use Rattle.campaign_console.specs.LineEnds.{Heard, Outside, came, IsLast, MayLack, AreTaken, AllTaken, IsWritten, is_read_fault, is_write_fault, Answers, Gives, LinesRan, LineRan, last_call, LinesRead, LinesCalled}
+use Rattle.campaign_console.specs.LineEnds.{Heard, Outside, came, IsLast, MayLack, AreTaken, AllTaken, IsWritten, is_read_fault, is_write_fault, Answers, Gives, LinesRan, LineRan, last_call, LinesCalled}
 use Rattle.campaign_console.proofs.AddLaws.{adds_none, adds_then, adds_says}
 
 -- what is promised of an answer that isn't an error
@@ -138,6 +137,7 @@ answers_none work before = record {
   heard = sym (append-nil before.heard);
   is_last = refl;
   lacks = refl;
+  apart = inl refl;
   taken = same before.left;
   all = tt;
   answered = (refl, refl);
@@ -179,6 +179,7 @@ answers_then work end a b c es fs one two =
       heard = heard_then a.heard b.heard c.heard one.lines (two.lines ++ two.lacking) two.last heard two.heard ∙ ap (λ l. a.heard ++ (map came l ++ two.last)) assoc;
       is_last = two.is_last;
       lacks = two.lacks;
+      apart = two.apart;
       taken = subst (AreTaken a.left c.left) assoc (taken_then a.left b.left c.left one.lines (two.lines ++ two.lacking) (subst (AreTaken a.left b.left) all one.taken) two.taken);
       all = two.all;
       answered = answered_both work one.lines two.lines es fs one.text two.text one.answered two.answered;
@@ -212,6 +213,7 @@ line_answers work line None before now entries heard told reads gives = record {
   heard = heard;
   is_last = refl;
   lacks = refl;
+  apart = inl refl;
   taken = taken_came before.left now.left line told;
   all = tt;
   answered = answered_one work line entries gives.0 gives.1;
@@ -227,6 +229,7 @@ line_answers work line (Some WriteFault) before now entries heard told reads giv
   heard = heard;
   is_last = refl;
   lacks = refl;
+  apart = inl refl;
   taken = taken_came before.left now.left line told;
   all = tt;
   answered = answered_one work line entries gives.0 gives.1;
@@ -244,6 +247,7 @@ line_answers work line (Some OutOfMemory) before now entries heard told reads gi
         heard = heard;
         is_last = inl refl;
         lacks = refl;
+        apart = inl refl;
         taken = taken_came before.left now.left line told;
         all = tt;
         answered = answered_one work line entries answered.0 answered.1;
@@ -259,6 +263,7 @@ line_answers work line (Some OutOfMemory) before now entries heard told reads gi
         heard = heard;
         is_last = inl refl;
         lacks = lacks.0;
+        apart = inr refl;
         taken = taken_came before.left now.left line told;
         all = tt;
         answered = (lacks.1, refl);
@@ -283,6 +288,7 @@ no_line work end before now last none heard is_last lacks told all reads written
   heard = heard;
   is_last = is_last;
   lacks = lacks;
+  apart = inl refl;
   taken = taken_none before.left now.left last none told;
   all = all;
   answered = (refl, refl);

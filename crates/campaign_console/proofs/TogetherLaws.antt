@@ -1,5 +1,5 @@
 -- One worker more beside the lines and the other workers: what they did with it.
-use Rattle.std.proofs.Common.{◌≡◌, ◌≢◌, ◌==◌, ◌||◌, ◌⊎◌, ℕ, ◌+◌, ◌-◌, ◌<◌, min, inl, inr, Bool, true, false, List, [], ◌∷◌, ◌++◌, length, refl, ap, sym, ◌∙◌, subst, arith, append_assoc}
+use Rattle.std.proofs.Common.{◌≡◌, ◌≢◌, ◌==◌, ◌||◌, ◌⊎◌, ℕ, ◌+◌, ◌-◌, ◌<◌, min, inl, inr, Bool, true, false, [], ◌∷◌, ◌++◌, length, refl, ap, sym, ◌∙◌, subst, arith, append_assoc}
 use Rattle.std.proofs.lemmas.Bool.{ne_eqb, or_parts, false≢true}
 use Rattle.std.proofs.lemmas.List.{append-nil}
 use Rattle.std.specs.List.{list_any}
@@ -7,20 +7,17 @@ use mathlib.Core.List.{IsPrefix}
 use Rattle.campaign_core.specs.declared.call.Call.TheVariants.{Claim, Cancel}
 use Rattle.campaign_core.specs.declared.call.Reply.{Reply}
 use Rattle.campaign_core.specs.declared.call.Reply.TheVariants.{Range, Idle as IsIdle, Drained as IsDrained, Cancelled as IsCancelled, Marked}
-use Rattle.campaign_core.specs.declared.call.Entry.{Entry}
 use Rattle.campaign_core.specs.Ranges.{has_range}
 use Rattle.campaign_core.specs.History.{entry, gate_of, ranges_of, deposits_of, out_of, calls_of}
 use Rattle.campaign_core.proofs.WithoutLaws.{has-nil, has-without}
 use Rattle.campaign_core.proofs.HistoryLaws.{ranges-nil, calls-nil, calls-append, prefix_trans, prefix_append}
 use Rattle.campaign_core.proofs.MachineLaws.{claim_cases}
 use Rattle.turn_book.specs.declared.view.View.{View}
-use Rattle.turn_book.specs.Views.{newcomer, with_made, owns, IsSameSeat, IsSound, TakesIn}
-use Rattle.turn_book.proofs.SeatLemmas.{owns_self}
+use Rattle.turn_book.specs.Views.{newcomer, with_made, IsSameSeat, IsSound, TakesIn}
 use Rattle.campaign.specs.Passes.{HasBoth, Says}
 use Rattle.campaign_workers.specs.declared.working.WorkEnd.{WorkEnd}
 use Rattle.campaign_workers.specs.declared.working.WorkEnd.TheVariants.{Idle, Drained, Cancelled, OutOfMemory}
 use Rattle.campaign_workers.specs.Working.{is_short, AreWork, SameOut, Works, Stops, DidWork}
-use Rattle.campaign_workers.specs.Crews.{Joins}
 use Rattle.campaign_workers.proofs.WorkLaws.{work_both, works_none, stops_works}
 use Rattle.campaign_workers.proofs.CrewLaws.{did_same, joins_more}
 use Rattle.sample_run.specs.SampleWorks.{WorkTerms}

@@ -14,7 +14,6 @@ use Rattle.campaign_console.specs.declared.lines.LinesEnd.{LinesEnd}
 use Rattle.campaign_console.specs.declared.lines.LinesEnd.TheVariants as lines
 use Rattle.campaign_console.specs.declared.consoles.ConsoleEnd.{ConsoleEnd}
 use Rattle.campaign_console.specs.declared.consoles.ConsoleEnd.TheVariants.{Finished, Cancelled, ReadFault, WriteFault, OutOfMemory}
-use Rattle.campaign_console.specs.declared.together.Ran.{Ran}
 use Rattle.campaign_console.specs.LineCalls.{asks_cancel}
 use Rattle.campaign_console.specs.LineEnds.{Outside, LinesRead}
 
@@ -32,8 +31,8 @@ pub record Writes (fails : Bool) (before now : Outside) (text : List ℕ) : Type
   pub written : MatchBool fails (GainedPart before.held now.held text) (Gained before.held now.held text)
 
 module _ {B : Type 0} where
-  -- the text of the final report: the gate and the runs of the whole history, and the totals over the samples of these
-  -- runs
+  -- the text of the final report: the gate and the runs of the whole history, and the totals over the samples
+  -- of these runs
   pub record IsFinal (terms : WorkTerms) (w : View B) (text : List ℕ) : Type 0 where
     pub totals : Sheet
     pub stands : StandsFor terms.system terms.seed totals (map samples_of (runs_of (deposits_of w.seen)))
@@ -41,8 +40,8 @@ module _ {B : Type 0} where
         text
         ≡ interim_text terms.system.zone_names (gate_of w.target w.seen) (runs_of (deposits_of w.seen)) totals
 
-  -- in the whole history the other passes' entries are claims and deposits, the runs cover what was given out, and
-  -- without a cancel that is all up to the target
+  -- in the whole history the other passes' entries are claims and deposits, the runs cover what was given
+  -- out, and without a cancel that is all up to the target
   pub record IsComplete (w : View B) : Type 0 where
     pub others : (n : ℕ) → n ≢ 0 → AreWork (calls_of n w.seen)
     pub runs : runs_of (deposits_of w.seen) ≡ first_runs (gate_of w.target w.seen).next
@@ -50,8 +49,8 @@ module _ {B : Type 0} where
         (gate_of w.target w.seen).cancelled ≡ false
         → (gate_of w.target w.seen).next ≡ (gate_of w.target w.seen).target
 
-  -- All lines were read and answered, by the opening pass's entries in the whole history, and then the final report was
-  -- written. Whether the campaign was cancelled is whether a line asked for it.
+  -- All lines were read and answered, by the opening pass's entries in the whole history, and then the final
+  -- report was written. Whether the campaign was cancelled is whether a line asked for it.
   pub record Reports (terms : WorkTerms) (cancelled : Bool) (before now : Outside) (w : View B) : Type 0 where
     pub middle : Outside
     pub text : List ℕ
@@ -70,8 +69,9 @@ module _ {B : Type 0} where
     pub final : IsFinal terms w text
     pub written : Writes true middle now text
 
-  -- What stands at an end, `before` and `now` being the console and the sink as they were and are, and `w` the view that
-  -- has the whole history. At a fault or without memory the lines ended there, or behind the last of them.
+  -- What stands at an end, `before` and `now` being the console and the sink as they were and are, and `w`
+  -- the view that has the whole history. At a fault or without memory the lines ended there, or behind the
+  -- last of them.
   abbrev pub EndsAs : ConsoleEnd → WorkTerms → Outside → Outside → View B → Type 0
   EndsAs Finished terms before now w = Reports terms false before now w
   EndsAs Cancelled terms before now w = Reports terms true before now w
@@ -87,12 +87,14 @@ Closes Finished cancelled held held' writes writes' text =
     (cancelled ≡ false) × Gained held held' text × Counts false writes writes'
 Closes Cancelled cancelled held held' writes writes' text =
     (cancelled ≡ true) × Gained held held' text × Counts false writes writes'
-Closes WriteFault cancelled held held' writes writes' text = GainedPart held held' text × Counts true writes writes'
+Closes WriteFault cancelled held held' writes writes' text =
+    GainedPart held held' text × Counts true writes writes'
 Closes OutOfMemory cancelled held held' writes writes' text = (held' ≡ held) × (writes' ≡ writes)
 Closes ReadFault cancelled held held' writes writes' text = ⊥
 
 -- the same by how the lines ended: the final report comes only where all were read
-abbrev pub ClosesLines : LinesEnd → ConsoleEnd → Bool → Option (List ℕ) → Option (List ℕ) → ℕ → ℕ → List ℕ → Type 0
+abbrev pub ClosesLines : LinesEnd → ConsoleEnd → Bool → Option (List ℕ) → Option (List ℕ) → ℕ → ℕ
+    → List ℕ → Type 0
 ClosesLines lines.AllRead end cancelled held held' writes writes' text =
     Closes end cancelled held held' writes writes' text
 ClosesLines lines.ReadFault end cancelled held held' writes writes' text =
@@ -103,8 +105,8 @@ ClosesLines lines.OutOfMemory end cancelled held held' writes writes' text =
     (end ≡ OutOfMemory) × (held' ≡ held) × (writes' ≡ writes)
 
 -- and where a worker found no memory, that is the end
-abbrev pub ClosesRan : Bool → LinesEnd → ConsoleEnd → Bool → Option (List ℕ) → Option (List ℕ) → ℕ → ℕ → List ℕ
-    → Type 0
+abbrev pub ClosesRan : Bool → LinesEnd → ConsoleEnd → Bool → Option (List ℕ) → Option (List ℕ) → ℕ → ℕ
+    → List ℕ → Type 0
 ClosesRan true ended end cancelled held held' writes writes' text =
     (end ≡ OutOfMemory) × (held' ≡ held) × (writes' ≡ writes)
 ClosesRan false ended end cancelled held held' writes writes' text =

@@ -40,10 +40,11 @@ HasZones system other = Unit {0}
 abbrev pub made : Call → Reply → List Entry
 made asked replied = entry 0 asked replied ∷ []
 
--- A request's entries in the history, and its answer. Where it asks for a call it has one entry, whose reply is the
--- answer; the totals of a report are those over the samples of its runs. Any other has none.
+-- A request's entries in the history, and its answer. Where it asks for a call it has one entry, whose reply
+-- is the answer; the totals of a report are those over the samples of its runs. Any other has none.
 abbrev pub IsReplied : WorkTerms → Request → Answer → List Entry → Type 0
-IsReplied work request.Progress (answer.Progress gate) entries = entries ≡ made call.Progress (reply.Progress gate)
+IsReplied work request.Progress (answer.Progress gate) entries =
+    entries ≡ made call.Progress (reply.Progress gate)
 IsReplied work request.Report (answer.Report gate runs totals) entries =
     (entries ≡ made call.Interim (reply.Interim gate runs))
     × StandsFor work.system work.seed totals (map samples_of runs)
@@ -68,8 +69,8 @@ pub record IsAnswered (work : WorkTerms) (line : List ℕ) (entries : List Entry
   pub said : text ≡ answer_text work.system.zone_names given
 
 -- a line has the first of these entries and the first of this text, and later lines the rest
-pub record Begins (work : WorkTerms) (line : List ℕ) (Later : List Entry → List ℕ → Type 0) (entries : List Entry)
-    (text : List ℕ) : Type 0 where
+pub record Begins (work : WorkTerms) (line : List ℕ) (Later : List Entry → List ℕ → Type 0)
+    (entries : List Entry) (text : List ℕ) : Type 0 where
   pub own : List Entry
   pub later : List Entry
   pub said : List ℕ

@@ -44,7 +44,8 @@ module _ {B : Type 0} where
     pub did : DidWork m end n
     pub busy : end ≢ Idle
 
-  -- at some point of what was seen, the campaign was cancelled, or it was sealed and all samples were given out
+  -- at some point of what was seen, the campaign was cancelled, or it was sealed and all samples were given
+  -- out
   pub record Drains (v w : View B) : Type 0 where
     pub before : List Entry
     pub later : IsPrefix before w.seen
@@ -53,9 +54,11 @@ module _ {B : Type 0} where
         ⊎ (((gate_of v.target before).next ≡ (gate_of v.target before).target)
         × ((gate_of v.target before).sealed ≡ true))
 
-  -- the lines were read, with these entries of the opening pass, and behind them are those of the workers' passes. If no
-  -- worker was short of memory, these are work, what was out is out and nothing else, and a worker came to the end.
-  pub record HasRan (terms : WorkTerms) (workers : ℕ) (ran : Ran) (before now : Outside) (v w : View B) : Type 0 where
+  -- the lines were read, with these entries of the opening pass, and behind them are those of the workers'
+  -- passes. If no worker was short of memory, these are work, what was out is out and nothing else, and a
+  -- worker came to the end.
+  pub record HasRan (terms : WorkTerms) (workers : ℕ) (ran : Ran) (before now : Outside) (v w : View B)
+      : Type 0 where
     pub own : List Entry
     pub theirs : List Entry
     pub read : LinesRead terms ran.lines before now own

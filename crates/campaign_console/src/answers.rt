@@ -46,8 +46,8 @@ pub enum Answer {
     Unknown,
 }
 
-/// Makes the call that a request asks for, if it asks for one. Without memory no call was made, and a report was
-/// asked for. It may wait for the pass that has the book.
+/// Makes the call that a request asks for, if it asks for one. Without memory no call was made, and a report
+/// was asked for. It may wait for the pass that has the book.
 pub(crate) fn ask<'a, R: Wait>(
     rt: &R,
     alloc: Global,
@@ -116,7 +116,8 @@ fn extend<'a, R: Wait>(
     requires opening { (pass_of pass.old).number ≡ 0 }
     requires more { IsAskable (Request.Extend more) }
     ensures pass { IsOf campaign.now pass.new }
-    ensures ok { Replied (work_of campaign.now) (Request.Extend more) result (pass_of pass.old) (pass_of pass.new) }
+    ensures ok { Replied (work_of campaign.now) (Request.Extend more) result
+        (pass_of pass.old) (pass_of pass.new) }
     ensures zones { HasZones (work_of campaign.now).system result }
 {
     for _ in rt.forever() {

@@ -1,9 +1,10 @@
 //! A console: lines are answered while workers run, and then the final report is written.
-ghost use Rattle.std.specs.Prelude.{◌≡◌, ◌≤◌, length};
+ghost use Rattle.std.specs.Prelude.{◌≡◌, ◌≤◌, ◌+◌, length, map};
 ghost use Rattle.ra_base.specs.declared.limits.TheConstants.{MOST_WORKERS};
-ghost use Rattle.campaign_core.specs.Ranges.{runs_of};
+ghost use Rattle.campaign_core.specs.Ranges.{samples_of, runs_of};
 ghost use Rattle.campaign_core.specs.History.{gate_of, deposits_of};
 ghost use Rattle.system_model.specs.System.{zone_count};
+ghost use Rattle.sample_run.specs.SampleWorks.{StandsFor};
 ghost use Rattle.report_text.specs.GateText.{interim_text};
 ghost use Rattle.campaign.specs.Passes.{block_of, pass_of, target_of, work_of, IsFirst, IsOf, IsWhole};
 ghost use Rattle.campaign_console.specs.LineEnds.{outside_of};
@@ -44,10 +45,11 @@ pub struct ConsoleDone<'a> {
     pub finished: Finished<SampleWork<'a>>,
 }
 
-/// Answers the lines of a console by calls of the campaign's opening pass, while so many workers run its samples
-/// with passes of their own. At the end of the lines it seals the campaign; at a fault or want of memory before
-/// that it cancels it and reads no more. Then the workers end, and unless there was a fault or want of memory the
-/// final report is written. Want of memory stands before any other end. It may wait for its workers.
+/// Answers the lines of a console by calls of the campaign's opening pass, while so many workers run its
+/// samples with passes of their own. At the end of the lines it seals the campaign; at a fault or want of
+/// memory before that it cancels it and reads no more. Then the workers end, and unless there was a fault or
+/// want of memory the final report is written. Want of memory stands before any other end. It may wait for
+/// its workers.
 pub fn console<'a, R: Threads + Wait + Sync, C: Console + Send, O: Sink + Send, P: Pause + Sync>(
     rt: &R,
     alloc: Global,
@@ -69,8 +71,14 @@ pub fn console<'a, R: Threads + Wait + Sync, C: Console + Send, O: Sink + Send, 
     ensures whole { IsWhole (pass_of result.finished.last.value) }
     ensures target { (pass_of result.finished.last.value).target ≡ target_of campaign.entry }
     ensures block { (pass_of result.finished.last.value).block ≡ block_of campaign.entry }
-    ensures gate { result.finished.gate ≡ gate_of (target_of campaign.entry) (pass_of result.finished.last.value).seen }
+    ensures joined { ((pass_of result.finished.last.value).made ≡ workers + 1)
+        × (length (pass_of result.finished.last.value).joined ≡ workers) }
+    ensures work { result.finished.work ≡ work_of campaign.entry }
+    ensures gate { result.finished.gate
+        ≡ gate_of (target_of campaign.entry) (pass_of result.finished.last.value).seen }
     ensures runs { result.finished.runs ≡ runs_of (deposits_of (pass_of result.finished.last.value).seen) }
+    ensures sum { StandsFor (work_of campaign.entry).system (work_of campaign.entry).seed
+        result.finished.sum (map samples_of result.finished.runs) }
     // What stands at the end, by that history.
     ensures ends { EndsAs result.end (work_of campaign.entry)
         (outside_of C.left C.answers C.faults O.held O.faults lines.old out.old)

@@ -1,5 +1,5 @@
-//! Lines that are answered while workers run: each asks for a call on the campaign or for none, and is answered
-//! by what the call's reply is in the campaign's one history.
+//! Lines that are answered while workers run: each asks for a call on the campaign or for none, and is
+//! answered by what the call's reply is in the campaign's one history.
 #![tactic(auto)]
 
 mod answers;
@@ -14,3 +14,6 @@ pub use consoles::{ConsoleDone, ConsoleEnd, console};
 pub use lines::LinesEnd;
 pub use requests::Request;
 pub use together::Ran;
+
+#[cfg(test)]
+mod tests;

@@ -26,9 +26,9 @@ pub enum LinesEnd {
     OutOfMemory,
 }
 
-/// Reads lines and answers each by a call of the opening pass, up to the end of the lines, a fault, or want of
-/// memory. At the end of the lines it seals the campaign, and else it cancels it. It may wait for the pass that has
-/// the book.
+/// Reads lines and answers each by a call of the opening pass, up to the end of the lines, a fault, or want
+/// of memory. At the end of the lines it seals the campaign, and else it cancels it. It may wait for the pass
+/// that has the book.
 pub(crate) fn answer_lines<'a, R: Wait, C: Console, O: Sink>(
     rt: &R,
     alloc: Global,

@@ -2,7 +2,8 @@
 ghost use Rattle.std.specs.Prelude.{◌≡◌};
 ghost use Rattle.std.specs.Char.{is_ascii_digit};
 ghost use Rattle.std.specs.List.{list_all};
-ghost use Rattle.campaign_console.specs.LineCalls.{bare_line, extension_of, request_in, request_of, IsAskable};
+ghost use Rattle.campaign_console.specs.LineCalls.{request_of, request_in, extension_of, bare_line};
+ghost use Rattle.campaign_console.specs.LineCalls.{IsAskable};
 
 use decimal_text::read_whole;
 use ra_base::limits::{MOST_LINE_BYTES, MOST_SAMPLES};

@@ -16,8 +16,8 @@ use std::alloc::Global;
 use std::sync::Wait;
 use system_model::System;
 
-/// A campaign that the lines of a console and workers share. The lines have its opening pass, of the type `K`, and
-/// each worker a pass of its own, of the type `M`.
+/// A campaign that the lines of a console and workers share. The lines have its opening pass, of the type
+/// `K`, and each worker a pass of its own, of the type `M`.
 pub(crate) trait Sharing<K, M> {
     /// A pass is the opening one of this campaign.
     ghost keeps: { Self → K → Type 0 };
@@ -96,7 +96,8 @@ impl<'c, 'a, P: Pause> Sharing<Pass<SampleWork<'a>>, Pass<SampleWork<'a>>>
     ghost keeps = { λ s pass. IsOf s.campaign.now pass × ((pass_of pass).number ≡ 0)
         × IsSampled (work_of s.campaign.now) s.system.now s.seed };
 
-    ghost owns = { λ s pass. IsOf s.campaign.now pass × IsSampled (work_of s.campaign.now) s.system.now s.seed };
+    ghost owns = { λ s pass. IsOf s.campaign.now pass
+        × IsSampled (work_of s.campaign.now) s.system.now s.seed };
 
     ghost made = { λ pass. (pass_of pass).made };
 
@@ -139,8 +140,8 @@ impl<'c, 'a, P: Pause> Sharing<Pass<SampleWork<'a>>, Pass<SampleWork<'a>>>
     }
 }
 
-// Runs samples until the campaign is cancelled, or sealed and all its samples given out. Without memory for that it
-// cancels.
+// Runs samples until the campaign is cancelled, or sealed and all its samples given out. Without memory for
+// that it cancels.
 fn run_worker<'a, R: Wait, P: Pause>(
     rt: &R,
     alloc: Global,
