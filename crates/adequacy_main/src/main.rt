@@ -7,10 +7,11 @@ mod std_sink;
 
 use adequacy::{Unread, report_unread};
 use folder_shelf::FolderShelf;
-use ra_base::{Console, NoPause, Sink, Status};
+use ra_base::{NoPause, Sink, Status};
 use result_recorders::{BindingCut, Plain, Shortfall, StorageLevel};
 use sample_totals::Recorder;
 use std::alloc::Global;
+use std::io::Read;
 use std::process::ExitCode;
 use std::rt::{Env, Files};
 use std::sync::Wait;
@@ -42,10 +43,10 @@ fn boxed<R: Recorder>(alloc: Global, recorder: R) -> Result<Box<R>, Unread> {
 /// Runs the words of the command line, with one recorder of each kind, in the order of kinds.
 fn run<
     R: Threads + Wait + Sync + Env + Files + AllocGlobal,
-    C: Console + Send,
+    F: Read + Send,
     O: Sink + Send,
     E: Sink,
->(rt: &R, console: &mut C, out: &mut O, err: &mut E) -> Result<Status, Unread> {
+>(rt: &R, console: &mut StdConsole<F>, out: &mut O, err: &mut E) -> Result<Status, Unread> {
     let alloc = rt.alloc();
     let words = words_of(rt)?;
     let recorders: [Box<dyn Recorder>; 4] = [

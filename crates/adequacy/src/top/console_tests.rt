@@ -1,23 +1,21 @@
 //! Consoles: what lines are answered, and that workers run while lines are read.
-ghost use Rattle.std.specs.Prelude.{◌≡◌, None, false};
-ghost use Rattle.ra_base.specs.ConsoleLines.{IsShort, is_line_fault};
+ghost use Rattle.std.specs.Prelude.{Some};
+ghost use Rattle.ra_base.specs.MemoryConsole.{lines_of, faults_of, answers_of};
 
 use super::adequacy;
 use super::tests::{ALL_SHORT, ALWAYS_OUT, DAY, NEVER_OUT, ZONE, shelf_of, words_of};
 use ra_base::{
-    Console, ConsoleError, LineLog, LineNote, MemoryConsole, MemorySink, NoPause, Pause, Status,
+    Console, ConsoleError, MemoryConsole, MemorySink, NoPause, OutOfMemory, Pause, Status,
     TableName, Text,
 };
 use sample_totals::Recorder;
 use std::alloc::Global;
-use std::sync::Wait;
 use std::sync::atomic::{AtomicU64, Ordering};
+use std::sync::{Arc, Wait};
 use std::test::Fail;
 use std::thread::Threads;
 
 const TURNS: u32 = 200_000_000;
-
-const FIVE_SAMPLES: &[&str] = &["--samples", "5", "--block", "2"];
 
 // What the lines behind a report are answered, and the final report over fifteen samples.
 const ANSWERS: &str = "refused too many target 5
@@ -78,30 +76,44 @@ fn tell<T: Threads + Wait + Sync, C: Console + Send, P: Pause + Sync>(
     Ok(Told { status, out, err })
 }
 
+// The same over a zone that never falls short, five samples and lines in memory.
+fn tell_lines<T: Threads + Wait + Sync>(
+    rt: &T,
+    alloc: Global,
+    lines: &mut MemoryConsole,
+) -> Result<Told, Fail> {
+    let tables = [ZONE, NEVER_OUT, DAY];
+    tell(
+        rt,
+        alloc,
+        &tables,
+        &["--samples", "5", "--block", "2"],
+        lines,
+        &NoPause,
+    )
+}
+
+// Adds a line that is too long.
+fn push_long(lines: &mut MemoryConsole) -> Result<(), OutOfMemory> {
+    lines.push(&[b'x'; 5000])
+}
+
 // The lines behind the report, one of them of five thousand bytes.
-fn push_lines(alloc: Global, lines: &mut MemoryConsole) -> Result<(), Fail> {
+fn push_lines(lines: &mut MemoryConsole) -> Result<(), OutOfMemory> {
     lines.push(b"extend 1000000")?;
     lines.push(b"extend 10")?;
     lines.push(b"hello")?;
-    lines.push(&vec![in alloc; 120u8; 5_000]?)?;
+    push_long(lines)?;
     lines.push(b"seal")?;
-    lines.push(b"extend 1")?;
-    Ok(())
+    lines.push(b"extend 1")
 }
 
 #[test]
 fn lines_are_answered(rt: HostRuntime) -> Result<(), Fail> {
     let alloc = rt.alloc();
     let mut lines = MemoryConsole::new(alloc);
-    push_lines(alloc, &mut lines)?;
-    let told = tell(
-        &rt,
-        alloc,
-        &[ZONE, NEVER_OUT, DAY],
-        FIVE_SAMPLES,
-        &mut lines,
-        &NoPause,
-    )?;
+    push_lines(&mut lines)?;
+    let told = tell_lines(&rt, alloc, &mut lines)?;
     assert_eq!(rt; told.status, Status::Done);
     assert_eq!(rt; told.out.bytes(), ANSWERS.as_bytes());
     assert_eq!(rt; told.err.bytes(), b"".as_slice());
@@ -114,15 +126,8 @@ fn a_report_comes_first(rt: HostRuntime) -> Result<(), Fail> {
     let alloc = rt.alloc();
     let mut lines = MemoryConsole::new(alloc);
     lines.push(b"report")?;
-    push_lines(alloc, &mut lines)?;
-    let told = tell(
-        &rt,
-        alloc,
-        &[ZONE, NEVER_OUT, DAY],
-        FIVE_SAMPLES,
-        &mut lines,
-        &NoPause,
-    )?;
+    push_lines(&mut lines)?;
+    let told = tell_lines(&rt, alloc, &mut lines)?;
     assert_eq!(rt; told.status, Status::Done);
     assert!(rt; told.out.bytes().starts_with(b"gate next "));
     assert!(rt; told.out.bytes().ends_with(ANSWERS.as_bytes()));
@@ -134,14 +139,7 @@ fn a_cancel_is_told(rt: HostRuntime) -> Result<(), Fail> {
     let alloc = rt.alloc();
     let mut lines = MemoryConsole::new(alloc);
     lines.push(b"cancel")?;
-    let told = tell(
-        &rt,
-        alloc,
-        &[ZONE, NEVER_OUT, DAY],
-        FIVE_SAMPLES,
-        &mut lines,
-        &NoPause,
-    )?;
+    let told = tell_lines(&rt, alloc, &mut lines)?;
     assert_eq!(rt; told.status, Status::Cancelled);
     assert!(rt; told.out.bytes().starts_with(b"cancelled\ngate next "));
     assert_eq!(rt; told.err.bytes(), b"cancelled\n".as_slice());
@@ -155,134 +153,140 @@ fn a_failed_read_ends_it(rt: HostRuntime) -> Result<(), Fail> {
     lines.push(b"extend 1")?;
     lines.push(b"seal")?;
     lines.fail(2)?;
-    let told = tell(
-        &rt,
-        alloc,
-        &[ZONE, NEVER_OUT, DAY],
-        FIVE_SAMPLES,
-        &mut lines,
-        &NoPause,
-    )?;
+    let told = tell_lines(&rt, alloc, &mut lines)?;
     assert_eq!(rt; told.status, Status::ReadFault);
     assert_eq!(rt; told.out.bytes(), b"target 6\n".as_slice());
     assert_eq!(rt; told.err.bytes(), b"read fault\n".as_slice());
     Ok(())
 }
 
-// What a console and a pause wait for, and whether one of them waited in vain.
+// How far the lines and a worker have come, which wait for each other.
 #[derive(Drop)]
-struct Signs {
+struct Meeting {
+    // The console's second call has begun.
+    second_call: AtomicU64,
+    // A share that is to be held has come.
     share: AtomicU64,
-    call: AtomicU64,
-    in_vain: AtomicU64,
+    // One of them waited in vain.
+    missed: AtomicU64,
 }
 
-impl Signs {
-    fn new() -> Signs {
-        Signs {
+impl Meeting {
+    fn new() -> Meeting {
+        Meeting {
+            second_call: AtomicU64::new(0),
             share: AtomicU64::new(0),
-            call: AtomicU64::new(0),
-            in_vain: AtomicU64::new(0),
+            missed: AtomicU64::new(0),
         }
+    }
+
+    fn has_missed(&self) -> bool {
+        self.missed.load(Ordering::SeqCst) == 1
+    }
+
+    // Waits until the word is 1, for many turns and not forever.
+    fn wait_for(&self, word: &AtomicU64) {
+        for _ in 0..TURNS {
+            if word.load(Ordering::SeqCst) == 1 {
+                return;
+            }
+        }
+        self.missed.store(1, Ordering::SeqCst);
     }
 }
 
-fn wait_for(sign: &AtomicU64, in_vain: &AtomicU64) {
-    for _ in 0..TURNS {
-        if sign.load(Ordering::SeqCst) > 0 {
-            return;
-        }
-    }
-    in_vain.fetch_add(1, Ordering::SeqCst);
-}
-
-// Gives the line `report` and then the end, and holds the call of this number until a share has come.
+// A console that holds one of its calls until a share has come.
 #[derive(Drop)]
-struct HoldingConsole<'a> {
-    signs: &'a Signs,
-    held: u32,
-    calls: u32,
-    log: LineLog,
+struct HeldConsole {
+    lines: MemoryConsole,
+    meeting: Arc<Meeting, Global>,
+    calls: u64,
+    held_call: u64,
 }
 
-impl Console for HoldingConsole<'_> {
-    ghost left = { λ _. None };
+impl Console for HeldConsole {
+    ghost left = { λ c. Some (lines_of c.lines) };
 
-    ghost answers = { λ c. c.log.items };
+    ghost answers = { λ c. answers_of c.lines };
 
-    ghost faults = { λ _. 0 };
+    ghost faults = { λ c. faults_of c.lines };
 
     fn line(&mut self, alloc: Global) -> Result<Option<Text>, ConsoleError> {
         self.calls = self.calls.saturating_add(1);
         if self.calls == 2 {
-            self.signs.call.store(1, Ordering::SeqCst);
+            self.meeting.second_call.store(1, Ordering::SeqCst);
         }
-        if self.calls == self.held {
-            wait_for(&self.signs.share, &self.signs.in_vain);
+        if self.calls == self.held_call {
+            self.meeting.wait_for(&self.meeting.share);
         }
-        let answer = give(alloc, self.calls == 1);
-        self.log = self.log.and(&LineNote { answer: &answer });
-        answer
+        self.lines.line(alloc)
     }
 }
 
-fn give(alloc: Global, first: bool) -> Result<Option<Text>, ConsoleError>
-    ensures short { IsShort result }
-    ensures sound { is_line_fault result ≡ false }
-{
-    if !first {
-        return Ok(None);
-    }
-    let mut text = Text::new(alloc);
-    match text.push(b"report") {
-        Ok(()) => Ok(Some(text)),
-        Err(_) => Err(ConsoleError::OutOfMemory),
-    }
-}
-
-// Holds the shares from this sample on until the console's second call has begun.
+// A pause that holds each share from a sample on until the console's second call has begun.
 #[derive(Drop)]
-struct HoldingPause<'a> {
-    signs: &'a Signs,
+struct HeldShares<'m> {
+    meeting: &'m Meeting,
     from: u32,
 }
 
-impl Pause for HoldingPause<'_> {
+impl<'m> Pause for HeldShares<'m> {
     fn before(&self, first: u32, _count: u32) {
         if first >= self.from {
-            self.signs.share.store(1, Ordering::SeqCst);
-            wait_for(&self.signs.call, &self.signs.in_vain);
+            self.meeting.share.store(1, Ordering::SeqCst);
+            self.meeting.wait_for(&self.meeting.second_call);
         }
     }
 }
 
-// The console's second call waits until a share has come, and each share until that call has begun.
-#[test]
-fn workers_run_while_lines_are_read(rt: HostRuntime) -> Result<(), Fail> {
-    let alloc = rt.alloc();
-    let signs = Signs::new();
-    let mut lines = HoldingConsole {
-        signs: &signs,
-        held: 2,
+// What a console writes that gives `report`, where one of its calls is held until a share from this sample on
+// has come, and these shares are held until its second call has begun.
+fn met<T: Threads + Wait + Sync>(
+    rt: &T,
+    alloc: Global,
+    workers: &str,
+    held_call: u64,
+    from: u32,
+) -> Result<MemorySink, Fail> {
+    let meeting = Arc::new(alloc, Meeting::new())?;
+    let mut lines = HeldConsole {
+        lines: MemoryConsole::new(alloc),
+        meeting: Arc::try_clone(&meeting)?,
         calls: 0,
-        log: LineLog::new(),
+        held_call,
     };
-    let pause = HoldingPause {
-        signs: &signs,
-        from: 0,
+    lines.lines.push(b"report")?;
+    let pause = HeldShares {
+        meeting: &meeting,
+        from,
     };
-    let options = ["--samples", "4", "--block", "2", "--workers", "2"];
+    let options = ["--samples", "4", "--block", "2", "--workers", workers];
     let told = tell(
-        &rt,
+        rt,
         alloc,
         &[ZONE, ALWAYS_OUT, DAY],
         &options,
         &mut lines,
         &pause,
     )?;
-    assert_eq!(rt; told.status, Status::Done);
-    assert_eq!(rt; signs.in_vain.load(Ordering::SeqCst), 0);
-    assert!(rt; told.out.bytes().ends_with(ALL_FOUR.as_bytes()));
+    let Told {
+        status,
+        out,
+        err: _,
+    } = told;
+    if status != Status::Done || meeting.has_missed() {
+        return Err("they missed each other".into());
+    }
+    Ok(out)
+}
+
+// The console's second call waits until a share has come, and each share until that call has begun.
+#[test]
+fn workers_run_while_lines_are_read(rt: HostRuntime) -> Result<(), Fail> {
+    let alloc = rt.alloc();
+    let out = met(&rt, alloc, "2", 2, 0)?;
+    assert!(rt; out.bytes().starts_with(b"gate next "));
+    assert!(rt; out.bytes().ends_with(ALL_FOUR.as_bytes()));
     Ok(())
 }
 
@@ -291,29 +295,8 @@ fn workers_run_while_lines_are_read(rt: HostRuntime) -> Result<(), Fail> {
 #[test]
 fn a_report_sums_what_was_deposited(rt: HostRuntime) -> Result<(), Fail> {
     let alloc = rt.alloc();
-    let signs = Signs::new();
-    let mut lines = HoldingConsole {
-        signs: &signs,
-        held: 1,
-        calls: 0,
-        log: LineLog::new(),
-    };
-    let pause = HoldingPause {
-        signs: &signs,
-        from: 2,
-    };
-    let options = ["--samples", "4", "--block", "2", "--workers", "1"];
-    let told = tell(
-        &rt,
-        alloc,
-        &[ZONE, ALWAYS_OUT, DAY],
-        &options,
-        &mut lines,
-        &pause,
-    )?;
+    let out = met(&rt, alloc, "1", 1, 2)?;
     let wanted = format!(in alloc; "{FIRST_TWO}{ALL_SHORT}{ALL_FOUR}")?;
-    assert_eq!(rt; told.status, Status::Done);
-    assert_eq!(rt; signs.in_vain.load(Ordering::SeqCst), 0);
-    assert_eq!(rt; told.out.bytes(), wanted.as_bytes());
+    assert_eq!(rt; out.bytes(), wanted.as_bytes());
     Ok(())
 }

@@ -1,9 +1,7 @@
 //! What no contract says: that the workers of a study run at once and claim their shares.
 
-use super::adequacy;
-use super::tests::{DAY, NEVER_OUT, ZONE, shelf_of, words_of};
-use ra_base::{MemoryConsole, MemorySink, Pause, Status};
-use sample_totals::Recorder;
+use super::tests::{DAY, NEVER_OUT, ZONE, quietly, shelf_of, words_of};
+use ra_base::{MemorySink, Pause, Status};
 use std::sync::atomic::{AtomicU64, Ordering};
 use std::test::Fail;
 
@@ -53,11 +51,7 @@ fn workers_run_at_once_and_claim_their_shares(rt: HostRuntime) -> Result<(), Fai
         come: AtomicU64::new(0),
         waited: AtomicU64::new(0),
     };
-    let mut lines = MemoryConsole::new(alloc);
-    let mut none: Vec<Box<dyn Recorder>> = Vec::new(alloc);
-    let status = adequacy(
-        &rt, alloc, &words, &mut shelf, &mut lines, &mut out, &mut err, &pause, &mut none,
-    );
+    let status = quietly(&rt, alloc, &words, &mut shelf, &mut out, &mut err, &pause);
     assert_eq!(rt; status, Status::Done);
     assert_eq!(rt; pause.waited.load(Ordering::SeqCst), 0);
     assert_eq!(rt; out.bytes(), EIGHT_SAMPLES.as_bytes());

@@ -2,11 +2,13 @@ ghost use Rattle.std.specs.Prelude.{Some};
 
 use super::adequacy;
 use ra_base::{
-    MemoryConsole, MemoryShelf, MemorySink, NoPause, Sink, SinkFault, Status, TableName,
+    MemoryConsole, MemoryShelf, MemorySink, NoPause, Pause, Sink, SinkFault, Status, TableName,
 };
 use sample_totals::Recorder;
 use std::alloc::Global;
+use std::sync::Wait;
 use std::test::Fail;
+use std::thread::Threads;
 
 // A folder, the words that follow the command and the folder, and what comes of it.
 #[derive(Clone, Copy)]
@@ -577,6 +579,23 @@ pub(super) fn words_of(
     Ok(words)
 }
 
+/// Runs words with a console without lines and no recorder.
+pub(super) fn quietly<T: Threads + Wait + Sync, O: Sink + Send, E: Sink, P: Pause + Sync>(
+    rt: &T,
+    alloc: Global,
+    words: &[String],
+    shelf: &mut MemoryShelf,
+    out: &mut O,
+    err: &mut E,
+    pause: &P,
+) -> Status {
+    let mut lines = MemoryConsole::new(alloc);
+    let mut none: Vec<Box<dyn Recorder>> = Vec::new(alloc);
+    adequacy(
+        rt, alloc, words, shelf, &mut lines, out, err, pause, &mut none,
+    )
+}
+
 // The status and what both sinks hold; each is written to once where it gains something, and else never.
 #[test]
 fn answers(rt: HostRuntime) -> Result<(), Fail> {
@@ -587,11 +606,7 @@ fn answers(rt: HostRuntime) -> Result<(), Fail> {
         let mut shelf = shelf_of(alloc, case.tables)?;
         let mut out = CountedSink::new(alloc, 1000)?;
         let mut err = CountedSink::new(alloc, 1000)?;
-        let mut lines = MemoryConsole::new(alloc);
-        let mut none: Vec<Box<dyn Recorder>> = Vec::new(alloc);
-        let status = adequacy(
-            &rt, alloc, &words, &mut shelf, &mut lines, &mut out, &mut err, &NoPause, &mut none,
-        );
+        let status = quietly(&rt, alloc, &words, &mut shelf, &mut out, &mut err, &NoPause);
         assert_eq!(rt; status, case.status, "case {number}");
         assert!(rt; out.holds(case.out), "case {number}");
         assert!(rt; err.holds(case.err), "case {number}");
@@ -625,11 +640,7 @@ fn faults(rt: HostRuntime) -> Result<(), Fail> {
         }
         let mut out = MemorySink::new(alloc, capacity)?;
         let mut err = MemorySink::new(alloc, room)?;
-        let mut lines = MemoryConsole::new(alloc);
-        let mut none: Vec<Box<dyn Recorder>> = Vec::new(alloc);
-        let status = adequacy(
-            &rt, alloc, &words, &mut shelf, &mut lines, &mut out, &mut err, &NoPause, &mut none,
-        );
+        let status = quietly(&rt, alloc, &words, &mut shelf, &mut out, &mut err, &NoPause);
         let (want, line, held) = if fails > 0 {
             (Status::ReadFault, "read fault\n", 0)
         } else if capacity < text.len() {

@@ -1,10 +1,9 @@
 //! Trials and a planner's folder: the same bytes for every number of workers.
 
-use super::adequacy;
+use super::tests::quietly;
 use ra_base::{
     MemoryConsole, MemoryShelf, MemorySink, NoPause, Status, TableBytes, TableName, Text,
 };
-use sample_totals::Recorder;
 use std::alloc::Global;
 use std::sync::Wait;
 use std::test::Fail;
@@ -30,12 +29,7 @@ fn written<T: Threads + Wait + Sync>(
     }
     let mut out = MemorySink::new(alloc, 2_000)?;
     let mut err = MemorySink::new(alloc, 100)?;
-    let mut lines = MemoryConsole::new(alloc);
-    let mut none: Vec<Box<dyn Recorder>> = Vec::new(alloc);
-    let status = adequacy(
-        rt, alloc, &list, shelf, &mut lines, &mut out, &mut err, &NoPause, &mut none,
-    );
-    match status {
+    match quietly(rt, alloc, &list, shelf, &mut out, &mut err, &NoPause) {
         Status::Done => Ok(out),
         _ => Err("not answered".into()),
     }
