@@ -4,7 +4,7 @@ use denote.RattleType.{RattleType}
 use denote.Exit.{no}
 use denote.Param.{arg, param}
 use denote.Param.Send.{IsSend, sendable, param_send, arg_send}
-use denote.Param.SendFields.{declared_send, as_row_send, owner_send}
+use denote.Param.SendFields.{declared_send, owner_send}
 use Rattle.ra_base.specs.contracts.line_log.LineLog as log
 use Rattle.adequacy_main.specs.contracts.std_console.Lines as lines
 use Rattle.adequacy_main.specs.contracts.std_console.StdConsole as console
@@ -22,7 +22,7 @@ console_send : (F : RattleType) → IsSend F → IsSend (console.the_row F)
 console_send F f =
     let r = lines_send F f in
     let l = log_send in
-    declared_send (console.the_type F) (search (sendable, as_row_send, r), (search sendable, (search (sendable, as_row_send, l), tt)))
+    declared_send (console.the_type F) (search (sendable, r), (search sendable, (search (sendable, l), tt)))
 
 pub adequacy-requires-send-C : goal.adequacy-requires-send-C
 adequacy-requires-send-C g c κs within =

@@ -3,7 +3,7 @@ use mir.Syntax.{ty_unit}
 use denote.Exit.{no}
 use denote.Param.{arg}
 use denote.Param.Send.{IsSend, sendable, param_send, arg_send}
-use denote.Param.SendFields.{declared_send, as_row_send, owner_send}
+use denote.Param.SendFields.{declared_send, owner_send}
 use Rattle.ra_base.proofs.text.Text.TheSendSync as text
 use Rattle.ra_base.specs.contracts.line_log.LineLog as log
 use Rattle.ra_base.specs.contracts.memory_console.MemoryConsole as console
@@ -17,9 +17,9 @@ console_send : IsSend console.the_row
 console_send =
     let t = text.the_send in
     let l = log_send in
-    declared_send console.the_type (search (crosses, sendable), (search (crosses, sendable, t), (search (crosses, sendable), (search sendable, (search sendable, (search (sendable, as_row_send, l), tt))))))
+    declared_send console.the_type (search (crosses, sendable), (search (crosses, sendable, t), (search (crosses, sendable), (search sendable, (search sendable, (search (sendable, l), tt))))))
 
 pub adequacy-status-requires-send-C : goal.adequacy-status-requires-send-C
-adequacy-status-requires-send-C g c κs within =
+adequacy-status-requires-send-C g c κs =
     let s = param_send 2 (arg ty_unit no console.the_row) (arg_send ty_unit no console.the_row console_send) in
     record { owned = λ x vs. s.owned x vs; leaving = λ k x w. s.leaving k x w }
