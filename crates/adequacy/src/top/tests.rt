@@ -69,6 +69,17 @@ unserved sum 0 mean 0.000 error 0.000
 zone A sum 0 mean 0.000 error 0.000
 ";
 
+// What a console without lines writes: the last report.
+const ONE_SAMPLE_REPORTED: &str = "gate next 1 target 1 sealed yes cancelled no
+ranges 0..0
+samples 1
+hours sum 0 mean 0.000 error -
+days sum 0 mean 0.000 error -
+events sum 0 mean 0.000 error -
+unserved sum 0 mean 0.000 error -
+zone A sum 0 mean 0.000 error -
+";
+
 pub(super) const ALL_SHORT: &str = "samples 2
 hours sum 48 mean 24.000 error 0.000
 days sum 2 mean 1.000 error 0.000
@@ -456,9 +467,9 @@ const CASES: [Case; 30] = [
         tables: &[ZONE, NEVER_OUT, DAY],
         command: "console",
         options: &["--samples", "1"],
-        status: Status::Words,
-        out: "",
-        err: "words: no such command\n",
+        status: Status::Done,
+        out: ONE_SAMPLE_REPORTED,
+        err: "",
     },
     Case {
         tables: &[ZONE, NEVER_OUT, DAY],
