@@ -27,7 +27,7 @@ pub(crate) fn target_index<L: Ledger>(
     ensures ends { HasEnds result (target_ends measure target.now) }
     ensures steps { steps.new ≡ steps.old + 1 }
 {
-    steps.tick();
+    steps.tick(); // The target's own index is one of those that are evaluated.
     measured(target.index(), measure)
 }
 
