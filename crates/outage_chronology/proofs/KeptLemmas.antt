@@ -10,12 +10,12 @@ use Rattle.sample_streams.specs.Draw.{Draws, draw, next_of, behind}
 use Rattle.sample_streams.proofs.Laws.{law_hour_draw, law_next_hour}
 use Rattle.outage_chronology.specs.declared.thresholds.Thresholds.{Thresholds}
 use Rattle.outage_chronology.specs.Outages.{component_count, component_rates, starts_out, fails, is_repaired, is_up, is_up_with, was_up, differ, changes, changes_in}
-use Rattle.outage_chronology.specs.Masks.{up_mask, says_up, IsMask, compared, turns, turned, next_state, first_state}
+use Rattle.outage_chronology.specs.Masks.{up_mask, says_up, IsMask, compared, AreOfStates, turns, turned, next_state, first_state}
 use Rattle.outage_chronology.proofs.MaskSteps.{says-mask}
 use Rattle.outage_chronology.proofs.Passing.{passing_alike}
 use Rattle.std.specs.List.{range_with_len}
 use Rattle.outage_chronology.specs.Thresholds.{AreOfRates, AreThresholds}
-use Rattle.outage_chronology.specs.Kept.{AreUpMasks, IsKept}
+use Rattle.outage_chronology.specs.Kept.{AreUpMasks, AreFresh, IsKept}
 
 -- ---- one component
 same_test : (a b c d : ℕ) → ((a < b) ↔ (c < d)) → ltb a b ≡ ltb c d
@@ -122,7 +122,7 @@ changes-are s seed sample hour before masks words fails repairs changed was is g
     differ-turned false true = refl
     differ-turned false false = refl
 
-pub started : (s : SystemParts) (draws next : Draws) (thresholds : Thresholds) (words used before masks changed : List ℕ) (space : ℕ)
+pub started : (s : SystemParts) (draws next : Draws) (thresholds : Thresholds) (words before masks of_states changed : List ℕ) (space : ℕ)
     → IsValid s
     → draws.components ≡ component_count s
     → draws.place ≡ 0
@@ -130,15 +130,16 @@ pub started : (s : SystemParts) (draws next : Draws) (thresholds : Thresholds) (
     → length words ≡ component_count s
     → AreNext draws words
     → next ≡ behind (length words) draws
-    → length used ≡ component_count s
     → length masks ≡ component_count s
+    → length of_states ≡ component_count s
+    → AreOfStates masks thresholds.fails.items thresholds.is_repaired.items of_states (component_count s)
     → ((k : ℕ) → k < component_count s → get_or before k 0 ≡ up_mask true)
     → ((k : ℕ) → k < component_count s → get_or masks k 0 ≡ up_mask (next_state (says_up (get_or before k 0)) (get_or words k 0) (get_or thresholds.starts_out.items k 0) (get_or thresholds.starts_out.items k 0)))
     → changed ≡ filter (λ k. turns (says_up (get_or before k 0)) (get_or words k 0) (get_or thresholds.starts_out.items k 0) (get_or thresholds.starts_out.items k 0)) (range_with_len 0 (component_count s))
     → component_count s ≤ space
-    → IsKept s 0 next thresholds used masks changed space
+    → IsKept s 0 next thresholds words masks of_states changed space
 unfolding is_up is_up_with
-started s draws next thresholds words used before masks changed space valid count place decided len are next_is used_len size was gone listed large =
+started s draws next thresholds words before masks of_states changed space valid count place decided len are next_is size states_len states was gone listed large =
     let first : draws.place ≡ 0 * draws.components = omega arith in
     let next_place = draws-then s 0 draws next words valid valid.hour count first len next_is in
     let each : (k : ℕ) → k < component_count s → get_or masks k 0 ≡ up_mask (is_up s draws.seed draws.sample 0 k) =
@@ -149,32 +150,35 @@ started s draws next thresholds words used before masks changed space valid coun
     ∙ ap (λ m. up_mask (next_state (says_up m) word start start)) (was k l)
     ∙ ap up_mask (first-is (component_rates s k) word _ _ _ (are.small k (omega arith)) (decided.each k l))
     ∙ ap (λ w. up_mask (not (starts_out (component_rates s k) w))) (drawn s 0 draws words valid valid.hour count first len are k l) in
-    subst (λ (d : Draws). IsKept s 0 d thresholds used masks changed space) (sym next_place) (record {
+    subst (λ (d : Draws). IsKept s 0 d thresholds words masks of_states changed space) (sym next_place) (record {
       valid = valid;
       in_range = valid.hour;
       components = count;
       place = refl;
-      room = used_len;
+      room = len;
       decided = decided;
       up = record { len = size; each = each };
+      states_room = states_len;
+      states = states;
       changes = changes-are s draws.seed draws.sample 0 before masks words thresholds.starts_out.items thresholds.starts_out.items changed was each gone listed;
       room_for_all = large;
     })
 
-pub stepped : (s : SystemParts) (hour : ℕ) (draws next : Draws) (thresholds : Thresholds) (old_words old_masks old_changed words used masks changed : List ℕ) (old_space space : ℕ)
-    → IsKept s hour draws thresholds old_words old_masks old_changed old_space
+pub stepped : (s : SystemParts) (hour : ℕ) (draws next : Draws) (thresholds : Thresholds) (old_words old_masks old_states old_changed words masks of_states changed : List ℕ) (old_space space : ℕ)
+    → IsKept s hour draws thresholds old_words old_masks old_states old_changed old_space
     → hour + 1 < hour_count s
     → length words ≡ component_count s
     → AreNext draws words
     → next ≡ behind (length words) draws
-    → length used ≡ component_count s
     → length masks ≡ component_count s
+    → length of_states ≡ component_count s
+    → AreOfStates masks thresholds.fails.items thresholds.is_repaired.items of_states (component_count s)
     → ((k : ℕ) → k < component_count s → get_or masks k 0 ≡ up_mask (next_state (says_up (get_or old_masks k 0)) (get_or words k 0) (get_or thresholds.fails.items k 0) (get_or thresholds.is_repaired.items k 0)))
     → changed ≡ filter (λ k. turns (says_up (get_or old_masks k 0)) (get_or words k 0) (get_or thresholds.fails.items k 0) (get_or thresholds.is_repaired.items k 0)) (range_with_len 0 (component_count s))
     → component_count s ≤ space
-    → IsKept s (hour + 1) next thresholds used masks changed space
+    → IsKept s (hour + 1) next thresholds words masks of_states changed space
 unfolding is_up is_up_with
-stepped s hour draws next thresholds old_words old_masks old_changed words used masks changed old_space space kept early len are next_is used_len size gone listed large =
+stepped s hour draws next thresholds old_words old_masks old_states old_changed words masks of_states changed old_space space kept early len are next_is size states_len states gone listed large =
     let next_place = draws-then s (hour + 1) draws next words kept.valid early kept.components kept.place len next_is in
     let later : hour + 1 ≡ suc hour = add-one hour in
     let each : (k : ℕ) → k < component_count s → get_or masks k 0 ≡ up_mask (is_up s draws.seed draws.sample (hour + 1) k) =
@@ -193,14 +197,16 @@ stepped s hour draws next thresholds old_words old_masks old_changed words used 
     ∙ ap (λ h. up_mask (is_up s draws.seed draws.sample h k)) (sym later) in
     let was : (k : ℕ) → k < component_count s → get_or old_masks k 0 ≡ up_mask (was_up s draws.seed draws.sample (hour + 1) k) =
     λ k l. kept.up.each k l ∙ ap (λ h. up_mask (was_up s draws.seed draws.sample h k)) (sym later) in
-    subst (λ (d : Draws). IsKept s (hour + 1) d thresholds used masks changed space) (sym next_place) (record {
+    subst (λ (d : Draws). IsKept s (hour + 1) d thresholds words masks of_states changed space) (sym next_place) (record {
       valid = kept.valid;
       in_range = early;
       components = kept.components;
       place = refl;
-      room = used_len;
+      room = len;
       decided = kept.decided;
       up = record { len = size; each = each };
+      states_room = states_len;
+      states = states;
       changes = changes-are s draws.seed draws.sample (hour + 1) old_masks masks words thresholds.fails.items thresholds.is_repaired.items changed was each gone listed;
       room_for_all = large;
     })

@@ -6,49 +6,30 @@ use Rattle.std.proofs.lemmas.List.{get_or-set_same, get_or-set_other, length-set
 use Rattle.std.proofs.lemmas.Nat.{le_or_l, le_or_r}
 use Rattle.std.specs.Int.{w32, bit_not}
 use Rattle.std.proofs.lemmas.Bool.{ne_eqb, eq-eqb, cases_eq, cases_Bool, cond-true, cond-false}
-use Rattle.outage_chronology.specs.Masks.{up_mask, says_up, turns, turned, next_state}
+use Rattle.outage_chronology.specs.Masks.{up_mask, bit_of, says_up, is_below, threshold_of, AreOfStates, turns, turned, next_state}
 use Rattle.outage_chronology.proofs.Passing.{passing_alike, passing_none, passing_pushed, passing_same}
 
 pub says-mask : (up : Bool) → says_up (up_mask up) ≡ up
 says-mask true = refl
 says-mask false = refl
 
--- the words so far say which states change, none of them where nothing was gathered, and the others are as before
-pub record AreDecided (masks before fails repairs words : List ℕ) (any count : ℕ) : Type 0 where
-  pub decided : (k : ℕ) → k < count → get_or words k 0 ≡ up_mask (turns (says_up (get_or masks k 0)) (get_or before k 0) (get_or fails k 0) (get_or repairs k 0))
-  pub none : any ≡ 0 → (k : ℕ) → k < count → get_or words k 0 ≡ 0
-  pub rest : (k : ℕ) → count ≤ k → get_or words k 0 ≡ get_or before k 0
+-- no word so far is below its threshold, where nothing was gathered
+abbrev pub NoneBelow : List ℕ → List ℕ → ℕ → ℕ → Type 0
+NoneBelow words thresholds any count = any ≡ 0 → (k : ℕ) → k < count → is_below (get_or words k 0) (get_or thresholds k 0) ≡ false
 
-pub decided-more : (masks before fails repairs words : List ℕ) (any at turn : ℕ)
-    → at < length words
-    → turn ≡ up_mask (turns (says_up (get_or masks at 0)) (get_or words at 0) (get_or fails at 0) (get_or repairs at 0))
-    → AreDecided masks before fails repairs words any at
-    → AreDecided masks before fails repairs (slice_set words at turn) (bit_or any turn) (at + 1)
-decided-more masks before fails repairs words any at turn among is so_far =
-    record {
-      decided =
-          λ k below.
-          elim (cases_eq k at) [
-            | inl here ↦
-                at_once k here
-                ∙ ap (λ (w : ℕ). up_mask (turns (says_up (get_or masks at 0)) w (get_or fails at 0) (get_or repairs at 0))) (so_far.rest at (omega arith))
-                ∙ ap (λ (j : ℕ). up_mask (turns (says_up (get_or masks j 0)) (get_or before j 0) (get_or fails j 0) (get_or repairs j 0))) (sym here)
-            | inr other ↦ get_or-set_other words at k turn 0 other ∙ so_far.decided k (omega arith)
-          ];
-      none =
-          λ zero_now k below.
-          elim (cases_eq k at) [
-            | inl here ↦ get_at k here ∙ or-right any turn zero_now
-            | inr other ↦ get_or-set_other words at k turn 0 other ∙ so_far.none (or-left any turn zero_now) k (omega arith)
-          ];
-      rest = λ k past. get_or-set_other words at k turn 0 (λ e. omega arith) ∙ so_far.rest k (omega arith);
-    }
+pub none-more : (words thresholds : List ℕ) (any at bit : ℕ)
+    → bit ≡ bit_of (is_below (get_or words at 0) (get_or thresholds at 0))
+    → NoneBelow words thresholds any at
+    → NoneBelow words thresholds (bit_or any bit) (at + 1)
+none-more words thresholds any at bit is so_far zero_now k below =
+    elim (cases_eq k at) [
+      | inl here ↦ ap (λ (j : ℕ). is_below (get_or words j 0) (get_or thresholds j 0)) here ∙ no-bit (is_below (get_or words at 0) (get_or thresholds at 0)) (sym is ∙ or-right any bit zero_now)
+      | inr other ↦ so_far (or-left any bit zero_now) k (omega arith)
+    ]
   where
-    get_at : (k : ℕ) → k ≡ at → get_or (slice_set words at turn) k 0 ≡ turn
-    get_at k here = ap (λ (w : ℕ). get_or (slice_set words at turn) w 0) here ∙ get_or-set_same words at turn 0 among
-
-    at_once : (k : ℕ) → k ≡ at → get_or (slice_set words at turn) k 0 ≡ up_mask (turns (says_up (get_or masks at 0)) (get_or words at 0) (get_or fails at 0) (get_or repairs at 0))
-    at_once k here = get_at k here ∙ is
+    no-bit : (b : Bool) → bit_of b ≡ 0 → b ≡ false
+    no-bit true e = absurd (omega arith)
+    no-bit false e = refl
 
     or-left : (a b : ℕ) → bit_or a b ≡ 0 → a ≡ 0
     or-left a b e = omega (arith, e, le_or_l a b)
@@ -56,24 +37,60 @@ decided-more masks before fails repairs words any at turn among is so_far =
     or-right : (a b : ℕ) → bit_or a b ≡ 0 → b ≡ 0
     or-right a b e = omega (arith, e, le_or_r a b)
 
--- the masks so far have turned where they were to, and these are listed; the others are as before
-pub record HaveTurned (turning before masks changed : List ℕ) (count : ℕ) : Type 0 where
-  pub turned : (k : ℕ) → k < count → get_or masks k 0 ≡ up_mask (turned (says_up (get_or before k 0)) (says_up (get_or turning k 0)))
-  pub rest : (k : ℕ) → count ≤ k → get_or masks k 0 ≡ get_or before k 0
-  pub list : changed ≡ filter (λ k. says_up (get_or turning k 0)) (range_with_len 0 count)
+-- the thresholds are set one by one
+pub states-more : (masks fails repairs thresholds : List ℕ) (at value : ℕ)
+    → at < length thresholds
+    → value ≡ threshold_of (says_up (get_or masks at 0)) (get_or fails at 0) (get_or repairs at 0)
+    → AreOfStates masks fails repairs thresholds at
+    → AreOfStates masks fails repairs (slice_set thresholds at value) (at + 1)
+states-more masks fails repairs thresholds at value among is so_far k below =
+    elim (cases_eq k at) [
+      | inl here ↦
+          ap (λ (j : ℕ). get_or (slice_set thresholds at value) j 0) here
+          ∙ get_or-set_same thresholds at value 0 among
+          ∙ is
+          ∙ ap (λ (j : ℕ). threshold_of (says_up (get_or masks j 0)) (get_or fails j 0) (get_or repairs j 0)) (sym here)
+      | inr other ↦ get_or-set_other thresholds at k value 0 other ∙ so_far k (omega arith)
+    ]
+
+-- what a turn goes by: the words, the thresholds of failure and repair, and the masks before it
+pub record Given : Type 0 where
+  pub words : List ℕ
+  pub fails : List ℕ
+  pub repairs : List ℕ
+  pub before : List ℕ
+
+abbrev pub turns_at : Given → ℕ → Bool
+turns_at g k = turns (says_up (get_or g.before k 0)) (get_or g.words k 0) (get_or g.fails k 0) (get_or g.repairs k 0)
+
+-- the masks so far have turned where they were to, and these are listed, and the thresholds are those of the states;
+-- the others are as before
+pub record HaveTurned (g : Given) (old_thresholds masks thresholds changed : List ℕ) (count : ℕ) : Type 0 where
+  pub turned : (k : ℕ) → k < count → get_or masks k 0 ≡ up_mask (turned (says_up (get_or g.before k 0)) (turns_at g k))
+  pub rest : (k : ℕ) → count ≤ k → get_or masks k 0 ≡ get_or g.before k 0
+  pub states : AreOfStates masks g.fails g.repairs thresholds count
+  pub thresholds_rest : (k : ℕ) → count ≤ k → get_or thresholds k 0 ≡ get_or old_thresholds k 0
+  pub list : changed ≡ filter (turns_at g) (range_with_len 0 count)
   pub few : length changed ≤ count
 
-pub turned-none : (turning masks : List ℕ) → HaveTurned turning masks masks [] 0
-turned-none turning masks =
-    record { turned = λ k below. absurd (omega arith); rest = λ k past. refl; list = refl; few = omega arith }
+pub turned-none : (g : Given) (thresholds : List ℕ) → HaveTurned g thresholds g.before thresholds [] 0
+turned-none g thresholds =
+    record {
+      turned = λ k below. absurd (omega arith);
+      rest = λ k past. refl;
+      states = λ k below. absurd (omega arith);
+      thresholds_rest = λ k past. refl;
+      list = refl;
+      few = omega arith;
+    }
 
-pub turned-stays : (turning before masks changed : List ℕ) (at : ℕ)
-    → get_or turning at 0 ≡ 0
-    → get_or before at 0 ≡ up_mask (says_up (get_or before at 0))
-    → HaveTurned turning before masks changed at
-    → HaveTurned turning before masks changed (at + 1)
-turned-stays turning before masks changed at stays is_mask so_far =
-    let no : says_up (get_or turning at 0) ≡ false = ap not (eq-eqb (get_or turning at 0) 0 stays) in
+pub turned-stays : (g : Given) (old_thresholds masks thresholds changed : List ℕ) (at : ℕ)
+    → turns_at g at ≡ false
+    → get_or g.before at 0 ≡ up_mask (says_up (get_or g.before at 0))
+    → get_or old_thresholds at 0 ≡ threshold_of (says_up (get_or g.before at 0)) (get_or g.fails at 0) (get_or g.repairs at 0)
+    → HaveTurned g old_thresholds masks thresholds changed at
+    → HaveTurned g old_thresholds masks thresholds changed (at + 1)
+turned-stays g old_thresholds masks thresholds changed at stays is_mask was so_far =
     record {
       turned =
           λ k below.
@@ -82,41 +99,70 @@ turned-stays turning before masks changed at stays is_mask so_far =
                 ap (λ (j : ℕ). get_or masks j 0) here
                 ∙ so_far.rest at (omega arith)
                 ∙ is_mask
-                ∙ ap (λ (b : Bool). up_mask (turned (says_up (get_or before at 0)) b)) (sym no)
-                ∙ ap (λ (j : ℕ). up_mask (turned (says_up (get_or before j 0)) (says_up (get_or turning j 0)))) (sym here)
+                ∙ ap (λ (b : Bool). up_mask (turned (says_up (get_or g.before at 0)) b)) (sym stays)
+                ∙ ap (λ (j : ℕ). up_mask (turned (says_up (get_or g.before j 0)) (turns_at g j))) (sym here)
             | inr other ↦ so_far.turned k (omega arith)
           ];
       rest = λ k past. so_far.rest k (omega arith);
-      list = so_far.list ∙ sym (passing_same (λ k. says_up (get_or turning k 0)) at no);
+      states =
+          λ k below.
+          elim (cases_eq k at) [
+            | inl here ↦
+                ap (λ (j : ℕ). get_or thresholds j 0) here
+                ∙ so_far.thresholds_rest at (omega arith)
+                ∙ was
+                ∙ ap (λ (m : ℕ). threshold_of (says_up m) (get_or g.fails at 0) (get_or g.repairs at 0)) (sym (so_far.rest at (omega arith)))
+                ∙ ap (λ (j : ℕ). threshold_of (says_up (get_or masks j 0)) (get_or g.fails j 0) (get_or g.repairs j 0)) (sym here)
+            | inr other ↦ so_far.states k (omega arith)
+          ];
+      thresholds_rest = λ k past. so_far.thresholds_rest k (omega arith);
+      list = so_far.list ∙ sym (passing_same (turns_at g) at stays);
       few = omega (arith, so_far.few);
     }
 
-pub turned-changes : (turning before masks changed : List ℕ) (at : ℕ)
+pub turned-changes : (g : Given) (old_thresholds masks thresholds changed : List ℕ) (at threshold : ℕ)
     → at < length masks
-    → get_or turning at 0 ≢ 0
-    → get_or before at 0 ≡ up_mask (says_up (get_or before at 0))
-    → HaveTurned turning before masks changed at
-    → HaveTurned turning before (slice_set masks at (bit_not w32 (get_or masks at 0))) (changed ++ at ∷ []) (at + 1)
-turned-changes turning before masks changed at among changes is_mask so_far =
-    let yes : says_up (get_or turning at 0) ≡ true = ap not (ne_eqb (get_or turning at 0) 0 changes) in
+    → at < length thresholds
+    → turns_at g at ≡ true
+    → get_or g.before at 0 ≡ up_mask (says_up (get_or g.before at 0))
+    → threshold ≡ threshold_of (says_up (bit_not w32 (get_or masks at 0))) (get_or g.fails at 0) (get_or g.repairs at 0)
+    → HaveTurned g old_thresholds masks thresholds changed at
+    → HaveTurned g old_thresholds (slice_set masks at (bit_not w32 (get_or masks at 0))) (slice_set thresholds at threshold) (changed ++ at ∷ []) (at + 1)
+turned-changes g old_thresholds masks thresholds changed at threshold among also_among changes is_mask is so_far =
     let value = bit_not w32 (get_or masks at 0) in
-    let value_is : value ≡ up_mask (turned (says_up (get_or before at 0)) (says_up (get_or turning at 0))) =
+    let value_is : value ≡ up_mask (turned (says_up (get_or g.before at 0)) (turns_at g at)) =
     ap (λ (m : ℕ). bit_not w32 m) (so_far.rest at (omega arith) ∙ is_mask)
-    ∙ flipped (says_up (get_or before at 0))
-    ∙ ap (λ (b : Bool). up_mask (turned (says_up (get_or before at 0)) b)) (sym yes) in
+    ∙ flipped (says_up (get_or g.before at 0))
+    ∙ ap (λ (b : Bool). up_mask (turned (says_up (get_or g.before at 0)) b)) (sym changes) in
+    let same_mask : get_or (slice_set masks at value) at 0 ≡ value = get_or-set_same masks at value 0 among in
     record {
       turned =
           λ k below.
           elim (cases_eq k at) [
             | inl here ↦
                 ap (λ (w : ℕ). get_or (slice_set masks at value) w 0) here
-                ∙ get_or-set_same masks at value 0 among
+                ∙ same_mask
                 ∙ value_is
-                ∙ ap (λ (j : ℕ). up_mask (turned (says_up (get_or before j 0)) (says_up (get_or turning j 0)))) (sym here)
+                ∙ ap (λ (j : ℕ). up_mask (turned (says_up (get_or g.before j 0)) (turns_at g j))) (sym here)
             | inr other ↦ get_or-set_other masks at k value 0 other ∙ so_far.turned k (omega arith)
           ];
       rest = λ k past. get_or-set_other masks at k value 0 (λ e. omega arith) ∙ so_far.rest k (omega arith);
-      list = ap (λ (xs : List ℕ). xs ++ at ∷ []) so_far.list ∙ sym (passing_pushed (λ k. says_up (get_or turning k 0)) at yes);
+      states =
+          λ k below.
+          elim (cases_eq k at) [
+            | inl here ↦
+                ap (λ (j : ℕ). get_or (slice_set thresholds at threshold) j 0) here
+                ∙ get_or-set_same thresholds at threshold 0 also_among
+                ∙ is
+                ∙ ap (λ (m : ℕ). threshold_of (says_up m) (get_or g.fails at 0) (get_or g.repairs at 0)) (sym same_mask)
+                ∙ ap (λ (j : ℕ). threshold_of (says_up (get_or (slice_set masks at value) j 0)) (get_or g.fails j 0) (get_or g.repairs j 0)) (sym here)
+            | inr other ↦
+                get_or-set_other thresholds at k threshold 0 other
+                ∙ so_far.states k (omega arith)
+                ∙ ap (λ (m : ℕ). threshold_of (says_up m) (get_or g.fails k 0) (get_or g.repairs k 0)) (sym (get_or-set_other masks at k value 0 other))
+          ];
+      thresholds_rest = λ k past. get_or-set_other thresholds at k threshold 0 (λ e. omega arith) ∙ so_far.thresholds_rest k (omega arith);
+      list = ap (λ (xs : List ℕ). xs ++ at ∷ []) so_far.list ∙ sym (passing_pushed (turns_at g) at changes);
       few = omega (arith, so_far.few, length-append changed (at ∷ []));
     }
   where
@@ -124,6 +170,7 @@ turned-changes turning before masks changed at among changes is_mask so_far =
     flipped true = refl
     flipped false = refl
 
--- a mask of 0 says no
-pub no-mask : (holds : Bool) (mask : ℕ) → mask ≡ up_mask holds → mask ≡ 0 → holds ≡ false
-no-mask holds mask is none = sym (says-mask holds) ∙ ap says_up (sym is ∙ none)
+-- whether a state turns is told by the threshold that is kept for it
+pub turns-by : (g : Given) (thresholds : List ℕ) (k count : ℕ) → k < count → AreOfStates g.before g.fails g.repairs thresholds count
+    → is_below (get_or g.words k 0) (get_or thresholds k 0) ≡ turns_at g k
+turns-by g thresholds k count below are = ap (λ t. is_below (get_or g.words k 0) t) (are k below)

@@ -1,10 +1,11 @@
-ghost use Rattle.std.specs.Prelude.{◌≡◌, ℕ, ◌+◌, ◌*◌, ◌<◌, IfOk, length, slice_index};
-ghost use Rattle.system_model.specs.System.{IsValid, hour_count};
+ghost use Rattle.std.specs.Prelude.{◌≡◌, ◌+◌, ◌<◌, IfOk, vec_capacity};
+ghost use Rattle.system_model.specs.System.{SystemParts, IsValid, hour_count};
+ghost use Rattle.outage_chronology.specs.Kept.{AreFresh, IsKept};
 ghost use Rattle.outage_chronology.specs.Outages.{component_count as count_of};
 ghost use Rattle.outage_chronology.specs.Standing.{is_up_at, changed_at};
 
 use crate::components::component_count;
-use crate::masks::{go_on, set_all_up};
+use crate::masks::{go_on, set_all_up, set_thresholds};
 use crate::thresholds::Thresholds;
 use ra_base::OutOfMemory;
 use sample_streams::SampleStream;
@@ -24,6 +25,8 @@ pub struct Chronology<'a> {
     thresholds: Thresholds,
     words: Vec<u32>,
     masks: Vec<u32>,
+    // For each component the threshold of its state: below it the next word changes the state.
+    of_states: Vec<u32>,
     changed: Vec<u32>,
 }
 
@@ -43,7 +46,7 @@ impl<'a> Model for Chronology<'a> {
     } };
 
     ghost invariant = { λ c. IsKept c.system.now c.hour c.draws c.thresholds c.words.items c.masks.items
-        c.changed.items (vec_capacity c.changed) };
+        c.of_states.items c.changed.items (vec_capacity c.changed) };
 }
 
 impl<'a> Chronology<'a> {
@@ -57,12 +60,17 @@ impl<'a> Chronology<'a> {
         let thresholds = Thresholds::of(alloc, system)?;
         let mut words = vec![in alloc; 0; count as usize]?;
         let mut masks = vec![in alloc; 0; count as usize]?;
+        let mut of_states = vec![in alloc; 0; count as usize]?;
         let mut changed = Vec::with_capacity(alloc, count as usize)?;
         let mut draws = SampleStream::new(seed, count);
-        draws.next_draws(&mut words);
-        set_all_up(&mut masks);
-        let starts_out = &thresholds.starts_out;
-        go_on(&mut masks, &mut words, starts_out, starts_out, &mut changed);
+        begin(
+            &mut draws,
+            &thresholds,
+            &mut words,
+            &mut masks,
+            &mut of_states,
+            &mut changed,
+        );
         Ok(Chronology {
             system,
             hour: 0,
@@ -70,6 +78,7 @@ impl<'a> Chronology<'a> {
             thresholds,
             words,
             masks,
+            of_states,
             changed,
         })
     }
@@ -79,15 +88,12 @@ impl<'a> Chronology<'a> {
         ensures { self.new ≡ record self.old { sample = sample; hour = 0 } }
     {
         self.draws.start(sample);
-        self.draws.next_draws(&mut self.words);
-        // Before hour 0 each component counts as up.
-        set_all_up(&mut self.masks);
-        let starts_out = &self.thresholds.starts_out;
-        go_on(
-            &mut self.masks,
+        begin(
+            &mut self.draws,
+            &self.thresholds,
             &mut self.words,
-            starts_out,
-            starts_out,
+            &mut self.masks,
+            &mut self.of_states,
             &mut self.changed,
         );
         self.hour = 0;
@@ -101,7 +107,8 @@ impl<'a> Chronology<'a> {
         self.draws.next_draws(&mut self.words);
         go_on(
             &mut self.masks,
-            &mut self.words,
+            &mut self.of_states,
+            &self.words,
             &self.thresholds.fails,
             &self.thresholds.is_repaired,
             &mut self.changed,
@@ -145,4 +152,31 @@ impl<'a> Chronology<'a> {
     {
         self.hour
     }
+}
+
+/// Takes the draws of a sample's hour 0, and sets what stands then.
+fn begin(
+    draws: &mut SampleStream,
+    thresholds: &Thresholds,
+    words: &mut [u32],
+    masks: &mut [u32],
+    of_states: &mut [u32],
+    changed: &mut Vec<u32>,
+)
+    requires { (system : SystemParts) × AreFresh system draws.old thresholds.now words.old masks.old of_states.old
+        (vec_capacity changed.old) }
+    ensures kept { (system : SystemParts)
+        → AreFresh system draws.old thresholds.now words.old masks.old of_states.old (vec_capacity changed.old)
+        → IsKept system 0 draws.new thresholds.now words.new masks.new of_states.new changed.new.items
+        (vec_capacity changed.new) }
+    ensures seed { draws.new.seed ≡ draws.old.seed }
+    ensures sample { draws.new.sample ≡ draws.old.sample }
+{
+    draws.next_draws(words);
+    // Before hour 0 each component counts as up.
+    set_all_up(masks);
+    let starts_out = &thresholds.starts_out;
+    of_states.copy_from_slice(starts_out);
+    go_on(masks, of_states, words, starts_out, starts_out, changed);
+    set_thresholds(of_states, masks, &thresholds.fails, &thresholds.is_repaired);
 }

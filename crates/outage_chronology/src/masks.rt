@@ -1,6 +1,6 @@
 ghost use Rattle.std.specs.Prelude.{◌≡◌, ℕ, ◌<◌, ◌≤◌, [], filter, length, slice_index, vec_capacity, true, false};
 ghost use Rattle.std.specs.List.{range_with_len};
-ghost use Rattle.outage_chronology.specs.Masks.{up_mask, says_up, IsMask, compared, turned, turns, next_state};
+ghost use Rattle.outage_chronology.specs.Masks.{up_mask, says_up, IsMask, bit_of, is_below, turns, next_state, threshold_of, AreOfStates};
 
 /// The mask of a component that is up.
 const UP: u32 = u32::MAX;
@@ -8,63 +8,59 @@ const UP: u32 = u32::MAX;
 /// The greatest word that thresholds tell apart: none is just above it.
 const LAST_WORD: u32 = u32::MAX - 1;
 
-/// All ones, or 0.
+/// Whether a word is below a threshold.
 #[inline]
-fn ones_if(holds: bool) -> u32
-    ensures { result ≡ up_mask holds }
+fn is_below(word: u32, threshold: u32) -> bool
+    ensures { result ≡ is_below word threshold }
 {
-    if holds { UP } else { 0 }
+    word.min(LAST_WORD) < threshold
 }
 
-/// All ones where a component's state changes by this word, by its mask until now, and else 0.
+/// 1, or 0.
 #[inline]
-fn turn_mask(was: u32, word: u32, fails: u32, is_repaired: u32) -> u32
-    requires { IsMask was }
-    ensures { result ≡ up_mask (turns (says_up was) word fails is_repaired) }
+fn bit_if(holds: bool) -> u32
+    ensures { result ≡ bit_of holds }
 {
-    // Bits and one comparison, since what a word decides can't be foretold.
-    let threshold = (fails & was) | (is_repaired & !was);
-    ones_if(word.min(LAST_WORD) < threshold)
+    u32::from(holds)
 }
 
-/// Writes over each word whether the component's state changes by it, and answers whether any does.
-fn decide(words: &mut [u32], masks: &[u32], fails: &[u32], is_repaired: &[u32]) -> bool
-    requires masks { length masks.now ≡ length words.old }
-    requires fails { length fails.now ≡ length words.old }
-    requires repairs { length is_repaired.now ≡ length words.old }
-    requires each { (k : ℕ) → k < length words.old → IsMask (slice_index masks.now k) }
-    ensures turns { (k : ℕ) → k < length words.old → slice_index words.new k ≡ up_mask
-        (turns (says_up (slice_index masks.now k)) (slice_index words.old k)
-        (slice_index fails.now k) (slice_index is_repaired.now k)) }
-    ensures none { result ≡ false → (k : ℕ) → k < length words.old → slice_index words.new k ≡ 0 }
+/// Whether some word is below its threshold.
+fn any_below(words: &[u32], thresholds: &[u32]) -> bool
+    requires { length thresholds.now ≡ length words.now }
+    ensures none { result ≡ false → (k : ℕ) → k < length words.now
+        → is_below (slice_index words.now k) (slice_index thresholds.now k) ≡ false }
 {
+    // Bits and no branch: what a word decides can't be foretold, and most hours decide nothing.
     let mut any = 0;
     for at in 0..words.len() {
-        let turn = turn_mask(masks[at], words[at], fails[at], is_repaired[at]);
-        words[at] = turn;
-        any |= turn;
+        any |= bit_if(is_below(words[at], thresholds[at]));
     }
     any != 0
 }
 
-/// Changes the masks that are to turn, and lists their places, ascending.
-fn turn(masks: &mut [u32], turning: &[u32], changed: &mut Vec<u32>)
-    requires sizes { length turning.now ≡ length masks.old }
-    requires room { length masks.old ≤ vec_capacity changed.old }
-    requires none { changed.old.items ≡ [] }
-    requires few { length masks.old ≤ 2688 }
-    requires masks { (k : ℕ) → k < length masks.old → IsMask (slice_index masks.old k) }
-    ensures masks { (k : ℕ) → k < length masks.old → slice_index masks.new k ≡ up_mask
-        (turned (says_up (slice_index masks.old k)) (says_up (slice_index turning.now k))) }
-    ensures list { changed.new.items ≡
-        filter (λ k. says_up (slice_index turning.now k)) (range_with_len 0 (length masks.old)) }
-    ensures room { vec_capacity changed.new ≡ vec_capacity changed.old }
+/// The threshold below which a word changes a state: that of failure where the mask says up, else that of
+/// repair.
+#[inline]
+fn threshold_of(mask: u32, fails: u32, is_repaired: u32) -> u32
+    ensures { result ≡ threshold_of (says_up mask) fails is_repaired }
 {
-    for at in 0..masks.len() {
-        if turning[at] != 0 {
-            masks[at] = !masks[at];
-            changed.push_reserved(at as u32);
-        }
+    if mask != 0 { fails } else { is_repaired }
+}
+
+/// Sets each threshold to that of the state that its mask says.
+pub(crate) fn set_thresholds(
+    thresholds: &mut [u32],
+    masks: &[u32],
+    fails: &[u32],
+    is_repaired: &[u32],
+)
+    requires masks { length masks.now ≡ length thresholds.old }
+    requires fails { length fails.now ≡ length thresholds.old }
+    requires repairs { length is_repaired.now ≡ length thresholds.old }
+    ensures { AreOfStates masks.now fails.now is_repaired.now thresholds.new (length thresholds.old) }
+{
+    for at in 0..thresholds.len() {
+        thresholds[at] = threshold_of(masks[at], fails[at], is_repaired[at]);
     }
 }
 
@@ -75,31 +71,74 @@ pub(crate) fn set_all_up(masks: &mut [u32])
     masks.fill(UP);
 }
 
-/// Goes on to the next masks, by the words and the thresholds of failure and repair, and lists the places
-/// of the masks that change, ascending. The words are used up.
-pub(crate) fn go_on(
+/// Changes the state of each component whose word is below its threshold, and lists their places, ascending.
+fn turn(
     masks: &mut [u32],
-    words: &mut [u32],
+    thresholds: &mut [u32],
+    words: &[u32],
     fails: &[u32],
     is_repaired: &[u32],
     changed: &mut Vec<u32>,
 )
-    requires words { length words.old ≡ length masks.old }
+    requires words { length words.now ≡ length masks.old }
     requires fails { length fails.now ≡ length masks.old }
     requires repairs { length is_repaired.now ≡ length masks.old }
+    requires sizes { length thresholds.old ≡ length masks.old }
+    requires room { length masks.old ≤ vec_capacity changed.old }
+    requires none { changed.old.items ≡ [] }
+    requires few { length masks.old ≤ 2688 }
+    requires masks { (k : ℕ) → k < length masks.old → IsMask (slice_index masks.old k) }
+    requires thresholds { AreOfStates masks.old fails.now is_repaired.now thresholds.old (length masks.old) }
+    ensures masks { (k : ℕ) → k < length masks.old → slice_index masks.new k ≡ up_mask
+        (next_state (says_up (slice_index masks.old k)) (slice_index words.now k)
+        (slice_index fails.now k) (slice_index is_repaired.now k)) }
+    ensures changed { changed.new.items ≡ filter (λ k. turns
+        (says_up (slice_index masks.old k)) (slice_index words.now k)
+        (slice_index fails.now k) (slice_index is_repaired.now k)) (range_with_len 0 (length masks.old)) }
+    ensures thresholds { AreOfStates masks.new fails.now is_repaired.now thresholds.new (length masks.old) }
+    ensures room { vec_capacity changed.new ≡ vec_capacity changed.old }
+{
+    for at in 0..masks.len() {
+        let turns = is_below(words[at], thresholds[at]);
+        if turns {
+            let mask = !masks[at];
+            masks[at] = mask;
+            thresholds[at] = threshold_of(mask, fails[at], is_repaired[at]);
+            changed.push_reserved(at as u32);
+        }
+    }
+}
+
+/// Goes on to the next masks, by the words and the thresholds of failure and repair, and lists the places
+/// of the masks that change, ascending. For each component the threshold of its state is kept, so that an
+/// hour in which none changes costs a comparison a component.
+pub(crate) fn go_on(
+    masks: &mut [u32],
+    thresholds: &mut [u32],
+    words: &[u32],
+    fails: &[u32],
+    is_repaired: &[u32],
+    changed: &mut Vec<u32>,
+)
+    requires words { length words.now ≡ length masks.old }
+    requires fails { length fails.now ≡ length masks.old }
+    requires repairs { length is_repaired.now ≡ length masks.old }
+    requires sizes { length thresholds.old ≡ length masks.old }
     requires room { length masks.old ≤ vec_capacity changed.old }
     requires few { length masks.old ≤ 2688 }
     requires masks { (k : ℕ) → k < length masks.old → IsMask (slice_index masks.old k) }
+    requires thresholds { AreOfStates masks.old fails.now is_repaired.now thresholds.old (length masks.old) }
     ensures masks { (k : ℕ) → k < length masks.old → slice_index masks.new k ≡ up_mask
-        (next_state (says_up (slice_index masks.old k)) (slice_index words.old k)
+        (next_state (says_up (slice_index masks.old k)) (slice_index words.now k)
         (slice_index fails.now k) (slice_index is_repaired.now k)) }
     ensures changed { changed.new.items ≡ filter (λ k. turns
-        (says_up (slice_index masks.old k)) (slice_index words.old k)
+        (says_up (slice_index masks.old k)) (slice_index words.now k)
         (slice_index fails.now k) (slice_index is_repaired.now k)) (range_with_len 0 (length masks.old)) }
+    ensures thresholds { AreOfStates masks.new fails.now is_repaired.now thresholds.new (length masks.old) }
     ensures room { vec_capacity changed.new ≡ vec_capacity changed.old }
 {
     changed.clear();
-    if decide(words, masks, fails, is_repaired) {
-        turn(masks, words, changed);
+    if any_below(words, thresholds) {
+        turn(masks, thresholds, words, fails, is_repaired, changed);
     }
 }
