@@ -1,4 +1,3 @@
-pub mod TextLaws
 pub mod MadeLaws
 pub mod PooledLaws
 pub mod RowLaws

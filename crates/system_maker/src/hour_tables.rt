@@ -19,7 +19,7 @@ pub(crate) enum Series {
 }
 
 /// A table by hours.
-#[tactic(auto, unfolding(crate::specs::PlainTables::hour_table), using(crate::proofs::TextLaws::text_steps))]
+#[tactic(auto, unfolding(crate::specs::PlainTables::hour_table), using(decimal_text::proofs::Growing::text_steps))]
 pub(crate) fn hour_table(
     alloc: Global,
     system: &System,
@@ -36,7 +36,7 @@ pub(crate) fn hour_table(
 }
 
 // The header, which names the zones.
-#[tactic(auto, unfolding(crate::specs::PlainTables::hour_header), using(crate::proofs::TextLaws::text_steps))]
+#[tactic(auto, unfolding(crate::specs::PlainTables::hour_header), using(decimal_text::proofs::Growing::text_steps))]
 fn put_header(out: &mut Text, system: &System) -> Result<(), OutOfMemory>
     ensures { OnOk result (out.new ≡ out.old ++ record_text (hour_header system.now)) }
 {
@@ -48,7 +48,7 @@ fn put_header(out: &mut Text, system: &System) -> Result<(), OutOfMemory>
 }
 
 // The record of an hour.
-#[tactic(auto, unfolding(crate::specs::PlainTables::hour_row), using(crate::proofs::TextLaws::text_steps))]
+#[tactic(auto, unfolding(crate::specs::PlainTables::hour_row), using(decimal_text::proofs::Growing::text_steps))]
 fn put_hour(out: &mut Text, system: &System, series: Series, hour: u32) -> Result<(), OutOfMemory>
     requires { hour < hour_count system.now }
     ensures { OnOk result (out.new ≡ out.old ++ record_text (hour_row series system.now hour)) }

@@ -26,7 +26,7 @@ pub(crate) fn plain_tables(alloc: Global, system: &System) -> Result<TableBytes,
 }
 
 // The table of zones.
-#[tactic(auto, unfolding(crate::specs::PlainTables::zone_table), using(crate::proofs::TextLaws::text_steps))]
+#[tactic(auto, unfolding(crate::specs::PlainTables::zone_table), using(decimal_text::proofs::Growing::text_steps))]
 fn zone_table(alloc: Global, system: &System) -> Result<Text, OutOfMemory>
     ensures { IfOk result (λ text. text ≡ zone_table system.now) }
 {
@@ -40,7 +40,7 @@ fn zone_table(alloc: Global, system: &System) -> Result<Text, OutOfMemory>
 }
 
 // The table of units.
-#[tactic(auto, unfolding(crate::specs::PlainTables::unit_table), using(crate::proofs::TextLaws::text_steps))]
+#[tactic(auto, unfolding(crate::specs::PlainTables::unit_table), using(decimal_text::proofs::Growing::text_steps))]
 fn unit_table(alloc: Global, system: &System) -> Result<Text, OutOfMemory>
     ensures { IfOk result (λ text. text ≡ unit_table system.now) }
 {
@@ -53,7 +53,7 @@ fn unit_table(alloc: Global, system: &System) -> Result<Text, OutOfMemory>
 }
 
 // The record of a unit.
-#[tactic(auto, unfolding(crate::specs::PlainTables::unit_row), using(crate::proofs::TextLaws::text_steps))]
+#[tactic(auto, unfolding(crate::specs::PlainTables::unit_row), using(decimal_text::proofs::Growing::text_steps))]
 fn put_unit(out: &mut Text, system: &System, at: u32) -> Result<(), OutOfMemory>
     requires { at < unit_count system.now }
     ensures { OnOk result (out.new ≡ out.old ++ record_text (unit_row system.now at)) }
@@ -66,7 +66,7 @@ fn put_unit(out: &mut Text, system: &System, at: u32) -> Result<(), OutOfMemory>
 }
 
 // The table of interfaces.
-#[tactic(auto, unfolding(crate::specs::PlainTables::interface_table), using(crate::proofs::TextLaws::text_steps))]
+#[tactic(auto, unfolding(crate::specs::PlainTables::interface_table), using(decimal_text::proofs::Growing::text_steps))]
 fn interface_table(alloc: Global, system: &System) -> Result<Text, OutOfMemory>
     ensures { IfOk result (λ text. text ≡ interface_table system.now) }
 {
@@ -79,7 +79,7 @@ fn interface_table(alloc: Global, system: &System) -> Result<Text, OutOfMemory>
 }
 
 // The record of an interface.
-#[tactic(auto, unfolding(crate::specs::PlainTables::interface_row), using(crate::proofs::TextLaws::text_steps))]
+#[tactic(auto, unfolding(crate::specs::PlainTables::interface_row), using(decimal_text::proofs::Growing::text_steps))]
 fn put_interface(out: &mut Text, system: &System, at: u32) -> Result<(), OutOfMemory>
     requires { at < interface_count system.now }
     ensures { OnOk result (out.new ≡ out.old ++ record_text (interface_row system.now at)) }
@@ -93,7 +93,7 @@ fn put_interface(out: &mut Text, system: &System, at: u32) -> Result<(), OutOfMe
 }
 
 // The table of lines.
-#[tactic(auto, unfolding(crate::specs::PlainTables::line_table), using(crate::proofs::TextLaws::text_steps))]
+#[tactic(auto, unfolding(crate::specs::PlainTables::line_table), using(decimal_text::proofs::Growing::text_steps))]
 fn line_table(alloc: Global, system: &System) -> Result<Text, OutOfMemory>
     ensures { IfOk result (λ text. text ≡ line_table system.now) }
 {
@@ -106,7 +106,7 @@ fn line_table(alloc: Global, system: &System) -> Result<Text, OutOfMemory>
 }
 
 // The record of a line.
-#[tactic(auto, unfolding(crate::specs::PlainTables::line_row), using(crate::proofs::TextLaws::text_steps))]
+#[tactic(auto, unfolding(crate::specs::PlainTables::line_row), using(decimal_text::proofs::Growing::text_steps))]
 fn put_line(out: &mut Text, system: &System, at: u32) -> Result<(), OutOfMemory>
     requires { at < line_count system.now }
     ensures { OnOk result (out.new ≡ out.old ++ record_text (line_row system.now at)) }
@@ -119,7 +119,7 @@ fn put_line(out: &mut Text, system: &System, at: u32) -> Result<(), OutOfMemory>
 }
 
 // The table of storages.
-#[tactic(auto, unfolding(crate::specs::PlainTables::storage_table), using(crate::proofs::TextLaws::text_steps))]
+#[tactic(auto, unfolding(crate::specs::PlainTables::storage_table), using(decimal_text::proofs::Growing::text_steps))]
 fn storage_table(alloc: Global, system: &System) -> Result<Text, OutOfMemory>
     ensures { IfOk result (λ text. text ≡ storage_table system.now) }
 {
@@ -133,7 +133,7 @@ fn storage_table(alloc: Global, system: &System) -> Result<Text, OutOfMemory>
 }
 
 // The record of a storage.
-#[tactic(auto, unfolding(crate::specs::PlainTables::storage_row), using(crate::proofs::TextLaws::text_steps))]
+#[tactic(auto, unfolding(crate::specs::PlainTables::storage_row), using(decimal_text::proofs::Growing::text_steps))]
 fn put_storage(out: &mut Text, system: &System, at: u32) -> Result<(), OutOfMemory>
     requires { at < storage_count system.now }
     ensures { OnOk result (out.new ≡ out.old ++ record_text (storage_row system.now at)) }
@@ -147,7 +147,7 @@ fn put_storage(out: &mut Text, system: &System, at: u32) -> Result<(), OutOfMemo
 }
 
 // How much a storage takes and gives in an hour, what it holds and what it starts with.
-#[tactic(auto, using(crate::proofs::TextLaws::text_steps))]
+#[tactic(auto, using(decimal_text::proofs::Growing::text_steps))]
 fn put_sizes(out: &mut Text, storage: Storage) -> Result<(), OutOfMemory>
     ensures { OnOk result (out.new ≡ out.old ++ flat_map next_field (size_fields storage)) }
 {
@@ -158,7 +158,7 @@ fn put_sizes(out: &mut Text, storage: Storage) -> Result<(), OutOfMemory>
 }
 
 // What a storage loses.
-#[tactic(auto, using(crate::proofs::TextLaws::text_steps))]
+#[tactic(auto, using(decimal_text::proofs::Growing::text_steps))]
 fn put_shares(out: &mut Text, storage: Storage) -> Result<(), OutOfMemory>
     ensures { OnOk result (out.new ≡ out.old ++ flat_map next_field (share_fields storage)) }
 {
