@@ -61,7 +61,8 @@ impl Analysis {
         requires { IsExtra extra }
         ensures pool { IfOk result (λ analysis. analysis ≡ pool_of system.now extra) }
         ensures rated { IfOk result (λ analysis. All (λ unit. AreRates unit.rates) analysis.units) }
-        ensures small { extra ≡ None → IfOk result (λ analysis. total_capacity analysis.units ≤ MOST_POOLED_MW) }
+        ensures small { extra ≡ None
+            → IfOk result (λ analysis. total_capacity analysis.units ≤ MOST_POOLED_MW) }
     {
         let units = pooled(alloc, system, extra)?;
         let table = OutageTable::of_units(alloc, &units)?;

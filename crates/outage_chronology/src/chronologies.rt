@@ -163,10 +163,11 @@ fn begin(
     of_states: &mut [u32],
     changed: &mut Vec<u32>,
 )
-    requires { (system : SystemParts) × AreFresh system draws.old thresholds.now words.old masks.old of_states.old
-        (vec_capacity changed.old) }
+    requires { (system : SystemParts) × AreFresh system draws.old thresholds.now words.old masks.old
+        of_states.old (vec_capacity changed.old) }
     ensures kept { (system : SystemParts)
-        → AreFresh system draws.old thresholds.now words.old masks.old of_states.old (vec_capacity changed.old)
+        → AreFresh system draws.old thresholds.now words.old masks.old of_states.old
+        (vec_capacity changed.old)
         → IsKept system 0 draws.new thresholds.now words.new masks.new of_states.new changed.new.items
         (vec_capacity changed.new) }
     ensures seed { draws.new.seed ≡ draws.old.seed }

@@ -68,7 +68,8 @@ fn calm_from(bounds: &[usize], capacity: usize, small: usize) -> usize
 /// Keeps the first `len` ends one by one.
 pub fn fill(near: &mut Vec<u64>, bounds: &[usize], len: usize) -> Result<(), AllocError>
     requires { AreDescending bounds.now }
-    ensures ok { OnOk result ((x : ℕ) → end_of near.new.items bounds.now x ≡ end_of near.old.items bounds.now x) }
+    ensures ok { OnOk result ((x : ℕ)
+        → end_of near.new.items bounds.now x ≡ end_of near.old.items bounds.now x) }
     ensures len { OnOk result (vec_len near.new ≡ max (vec_len near.old) len) }
 {
     let mut end = bounds.len();

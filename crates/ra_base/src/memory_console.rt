@@ -91,7 +91,8 @@ impl Console for MemoryConsole {
         ensures faults { Counts (is_line_fault result) (faults_of self.old) (faults_of self.new) }
         ensures calls { calls_of self.new ≡ one_more (calls_of self.old) }
         ensures failing { failing_of self.new ≡ failing_of self.old }
-        ensures fails { IsErrOf result ConsoleError.Fault ↔ Contains (failing_of self.old) (calls_of self.new) }
+        ensures fails { IsErrOf result ConsoleError.Fault
+            ↔ Contains (failing_of self.old) (calls_of self.new) }
     {
         self.calls = self.calls.saturating_add(1);
         let fails = is_listed(&self.failing, self.calls);

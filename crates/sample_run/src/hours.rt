@@ -49,7 +49,8 @@ impl<'a> Model for Hours<'a> {
       outcome = h.outcome;
     } };
 
-    ghost invariant = { λ h. IsKept h.system.now h.chronology h.sums h.storages h.network h.dispatcher h.outcome h.chain };
+    ghost invariant = { λ h. IsKept h.system.now h.chronology h.sums h.storages h.network h.dispatcher
+        h.outcome h.chain };
 }
 
 impl<'a> Hours<'a> {
@@ -100,7 +101,8 @@ impl<'a> Hours<'a> {
 
     /// Goes through the first hour of a sample.
     pub fn start(&mut self, sample: u32)
-        ensures hour { IsHour self.new.system (up_in self.new) (start_energies self.new.system) 0 self.new.outcome }
+        ensures hour { IsHour self.new.system (up_in self.new) (start_energies self.new.system) 0
+            self.new.outcome }
         ensures least { let n = network_of self.new.system (up_in self.new) (start_energies self.new.system) 0 in
             IsLeastUnserved n (all_unserved n self.new.outcome) }
         ensures at { self.new ≡ record self.old {
@@ -120,7 +122,8 @@ impl<'a> Hours<'a> {
     /// Goes through the next hour of the sample.
     pub fn next(&mut self)
         requires { self.old.hour + 1 < hour_count self.old.system }
-        ensures hour { IsHour self.new.system (up_in self.new) (carried_energies self.old.system self.old.energies)
+        ensures hour { IsHour self.new.system (up_in self.new)
+            (carried_energies self.old.system self.old.energies)
             self.new.hour self.new.outcome }
         ensures least { let n = network_of self.new.system (up_in self.new)
             (carried_energies self.old.system self.old.energies) self.new.hour in
@@ -139,7 +142,8 @@ impl<'a> Hours<'a> {
 
     /// Dispatches the hour where the chronology stands, from what the storages hold before it.
     fn work_out(&mut self)
-        ensures hour { IsHour self.new.system (up_in self.new) self.old.energies self.new.hour self.new.outcome }
+        ensures hour { IsHour self.new.system (up_in self.new) self.old.energies self.new.hour
+            self.new.outcome }
         ensures least { let n = network_of self.new.system (up_in self.new) self.old.energies self.new.hour in
             IsLeastUnserved n (all_unserved n self.new.outcome) }
         ensures at { self.new ≡ record self.old {

@@ -57,9 +57,11 @@ fn set_links(net: &mut Network, system: &System, chronology: &Chronology<'_>, su
     requires shape { net.old.shape ≡ shape_of system.now }
     requires sums { AreSums system.now (is_up_at chronology.now) sums.now }
     ensures forwards { net.new.forwards ≡
-        map (forward_limit system.now (is_up_at chronology.now)) (range_with_len 0 (interface_count system.now)) }
+        map (forward_limit system.now (is_up_at chronology.now))
+        (range_with_len 0 (interface_count system.now)) }
     ensures backwards { net.new.backwards ≡
-        map (backward_limit system.now (is_up_at chronology.now)) (range_with_len 0 (interface_count system.now)) }
+        map (backward_limit system.now (is_up_at chronology.now))
+        (range_with_len 0 (interface_count system.now)) }
     ensures rest { net.new ≡ record net.old { forwards = net.new.forwards; backwards = net.new.backwards } }
 {
     for link in 0..net.links() {
@@ -96,10 +98,12 @@ fn set_devices(
     requires chronology { chronology.now.system ≡ system.now }
     requires storages { storages.now.system ≡ system.now }
     ensures discharge { net.new.discharge_caps ≡
-        map (λ device. (device_caps system.now (is_up_at chronology.now) storages.now.energies device).discharge)
+        map (λ device.
+        (device_caps system.now (is_up_at chronology.now) storages.now.energies device).discharge)
         (range_with_len 0 (storage_count system.now)) }
     ensures charge { net.new.charge_caps ≡
-        map (λ device. (device_caps system.now (is_up_at chronology.now) storages.now.energies device).charge)
+        map (λ device.
+        (device_caps system.now (is_up_at chronology.now) storages.now.energies device).charge)
         (range_with_len 0 (storage_count system.now)) }
     ensures rest { net.new ≡ record net.old {
       discharge_caps = net.new.discharge_caps;

@@ -33,7 +33,8 @@ impl<'a> Runner<'a> {
     fn totals_of(&mut self, alloc: Global, first: u32, count: u32) -> Result<Totals, OutOfMemory>
         requires { first + count ≤ MOST_SAMPLES }
         ensures runner { self.new ≡ self.old }
-        ensures sum { IfOk result (λ totals. StandsFor self.old.system self.old.seed totals (range first count ∷ [])) }
+        ensures sum { IfOk result (λ totals. StandsFor self.old.system self.old.seed totals
+            (range first count ∷ [])) }
     {
         let mut totals = Totals::new(alloc, self.zones())?;
         for sample in first..first + count {

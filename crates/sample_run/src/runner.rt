@@ -75,7 +75,8 @@ impl<'a> Runner<'a> {
         ensures ok { OnOk result (HasLines self.old.system self.old.seed sample
             (map R.seen recorders.old) (map R.seen recorders.new)) }
         ensures ok_counts { OnOk result (map R.refusals recorders.new ≡ map R.refusals recorders.old) }
-        ensures err { IfErr result (λ e. HasBroken self.old.system self.old.seed sample (place_of e) (hour_of e)
+        ensures err { IfErr result (λ e.
+            HasBroken self.old.system self.old.seed sample (place_of e) (hour_of e)
             (map R.seen recorders.old) (map R.seen recorders.new)) }
         ensures err_place { IfErr result (λ e. place_of e < length recorders.old) }
         ensures err_hour { IfErr result (λ e. hour_of e < hour_count self.old.system) }

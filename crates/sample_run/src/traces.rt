@@ -28,7 +28,8 @@ pub(crate) fn give_hour<R: Recorder>(
     outcome: &HourOutcome,
     recorders: &mut [R],
 ) -> Result<(), TraceError>
-    ensures ok { OnOk result (map R.seen recorders.new ≡ map (with_line outcome.now) (map R.seen recorders.old)) }
+    ensures ok { OnOk result (map R.seen recorders.new
+        ≡ map (with_line outcome.now) (map R.seen recorders.old)) }
     ensures ok_counts { OnOk result (map R.refusals recorders.new ≡ map R.refusals recorders.old) }
     ensures place { IfErr result (λ e. place_of e < length recorders.old) }
     ensures hour { IfErr result (λ e. hour_of e ≡ outcome.now.hour) }

@@ -80,7 +80,8 @@ impl UpSums {
     /// Adds a component that comes back, or takes away one that goes out.
     fn turn(&mut self, system: &System, component: u32, up: bool)
         requires component { component < count_of system.now }
-        requires turns { (before : NumberSet) × AreSums system.now before self.old × (before component ≡ not up) }
+        requires turns { (before : NumberSet) × AreSums system.now before self.old
+            × (before component ≡ not up) }
         ensures { (before : NumberSet) → AreSums system.now before self.old → before component ≡ not up
             → AreSums system.now (with_state before component up) self.new }
     {

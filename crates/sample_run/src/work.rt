@@ -77,5 +77,6 @@ impl<'a> Work for SampleWork<'a> {
 
     ghost stands_by_samples = { λ work sum xs ys same s. stands_same work.system work.seed sum xs ys same s };
 
-    ghost enough_by_samples = { λ work xs ys same. enough_same work.system work.seed work.precision xs ys same };
+    ghost enough_by_samples = { λ work xs ys same.
+        enough_same work.system work.seed work.precision xs ys same };
 }

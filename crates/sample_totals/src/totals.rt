@@ -89,7 +89,8 @@ fn add_zones(zones: &mut [Sums], sample: &SampleResult)
 /// Adds the sums of each zone.
 fn merge_zones(zones: &mut [Sums], more: &[Sums])
     requires agree { length zones.old ≡ length more.now }
-    requires fits { (z : ℕ) → FitBoth (slice_index_or zones.old z no_sums) (slice_index_or more.now z no_sums) }
+    requires fits { (z : ℕ)
+        → FitBoth (slice_index_or zones.old z no_sums) (slice_index_or more.now z no_sums) }
     ensures { (z : ℕ) → z < length zones.old → slice_index_or zones.new z no_sums
         ≡ joined_sums (slice_index_or zones.old z no_sums) (slice_index_or more.now z no_sums) }
 {

@@ -50,8 +50,8 @@ pub(crate) fn put_rate(out: &mut Text, billionths: u32) -> Result<(), OutOfMemor
 
 /// Both rates, and the line's end.
 pub(crate) fn put_rates(out: &mut Text, rates: Rates) -> Result<(), OutOfMemory>
-    ensures { OnOk result (out.new ≡ out.old ++ next_field (rate_text rates.f) ++ next_field (rate_text rates.r)
-        ++ 10 ∷ []) }
+    ensures { OnOk result (out.new ≡ out.old
+        ++ next_field (rate_text rates.f) ++ next_field (rate_text rates.r) ++ 10 ∷ []) }
 {
     put_rate(out, rates.f)?;
     put_rate(out, rates.r)?;
