@@ -3,7 +3,9 @@ ghost use Rattle.std.specs.Prelude.{Some};
 ghost use Rattle.ra_base.specs.MemoryConsole.{lines_of, faults_of, answers_of};
 
 use super::adequacy;
-use super::tests::{ALL_SHORT, ALWAYS_OUT, DAY, NEVER_OUT, ZONE, shelf_of, words_of};
+use super::tests::{
+    ALL_SHORT, ALWAYS_OUT, DAY, NEVER_OUT, NOTHING_SHORT, ONE_SAMPLE, ZONE, shelf_of, words_of,
+};
 use ra_base::{
     Console, ConsoleError, MemoryConsole, MemorySink, NoPause, OutOfMemory, Pause, Status,
     TableName, Text,
@@ -17,7 +19,7 @@ use std::thread::Threads;
 
 const TURNS: u32 = 200_000_000;
 
-// What the lines behind a report are answered, and the final report over fifteen samples.
+// What the lines behind a report are answered, and the gate and the ranges of the final report.
 const ANSWERS: &str = "refused too many target 5
 target 15
 refused unknown
@@ -26,7 +28,21 @@ sealed
 refused sealed
 gate next 15 target 15 sealed yes cancelled no
 ranges 0..14
-samples 15
+";
+
+// The totals over samples in which nothing is short; those over two stand beside the answers of studies.
+const NO_SAMPLE: &str = "samples 0
+";
+
+const ONE_CALM: &str = "samples 1
+hours sum 0 mean 0.000 error -
+days sum 0 mean 0.000 error -
+events sum 0 mean 0.000 error -
+unserved sum 0 mean 0.000 error -
+zone A sum 0 mean 0.000 error -
+";
+
+const THREE_CALM: &str = "samples 3
 hours sum 0 mean 0.000 error 0.000
 days sum 0 mean 0.000 error 0.000
 events sum 0 mean 0.000 error 0.000
@@ -34,19 +50,150 @@ unserved sum 0 mean 0.000 error 0.000
 zone A sum 0 mean 0.000 error 0.000
 ";
 
-const FIRST_TWO: &str = "gate next 4 target 4 sealed no cancelled no
-ranges 0..1
+const FOUR_CALM: &str = "samples 4
+hours sum 0 mean 0.000 error 0.000
+days sum 0 mean 0.000 error 0.000
+events sum 0 mean 0.000 error 0.000
+unserved sum 0 mean 0.000 error 0.000
+zone A sum 0 mean 0.000 error 0.000
 ";
 
-const ALL_FOUR: &str = "gate next 4 target 4 sealed yes cancelled no
-ranges 0..3
-samples 4
+const FIVE_CALM: &str = "samples 5
+hours sum 0 mean 0.000 error 0.000
+days sum 0 mean 0.000 error 0.000
+events sum 0 mean 0.000 error 0.000
+unserved sum 0 mean 0.000 error 0.000
+zone A sum 0 mean 0.000 error 0.000
+";
+
+const FIFTEEN_CALM: &str = "samples 15
+hours sum 0 mean 0.000 error 0.000
+days sum 0 mean 0.000 error 0.000
+events sum 0 mean 0.000 error 0.000
+unserved sum 0 mean 0.000 error 0.000
+zone A sum 0 mean 0.000 error 0.000
+";
+
+// The same where a zone lacks 60 MW in each of 24 hours; those over one and two stand beside the answers of
+// studies too.
+const THREE_SHORT: &str = "samples 3
+hours sum 72 mean 24.000 error 0.000
+days sum 3 mean 1.000 error 0.000
+events sum 3 mean 1.000 error 0.000
+unserved sum 4320 mean 1440.000 error 0.000
+zone A sum 4320 mean 1440.000 error 0.000
+cut A hours 72 unserved 4320
+";
+
+const FOUR_SHORT: &str = "samples 4
 hours sum 96 mean 24.000 error 0.000
 days sum 4 mean 1.000 error 0.000
 events sum 4 mean 1.000 error 0.000
 unserved sum 5760 mean 1440.000 error 0.000
 zone A sum 5760 mean 1440.000 error 0.000
 cut A hours 96 unserved 5760
+";
+
+const FIVE_SHORT: &str = "samples 5
+hours sum 120 mean 24.000 error 0.000
+days sum 5 mean 1.000 error 0.000
+events sum 5 mean 1.000 error 0.000
+unserved sum 7200 mean 1440.000 error 0.000
+zone A sum 7200 mean 1440.000 error 0.000
+cut A hours 120 unserved 7200
+";
+
+const FIFTEEN_SHORT: &str = "samples 15
+hours sum 360 mean 24.000 error 0.000
+days sum 15 mean 1.000 error 0.000
+events sum 15 mean 1.000 error 0.000
+unserved sum 21600 mean 1440.000 error 0.000
+zone A sum 21600 mean 1440.000 error 0.000
+cut A hours 360 unserved 21600
+";
+
+// A unit, and the totals with it over none to five samples and over fifteen.
+#[derive(Clone, Copy)]
+struct Totalled {
+    unit: (TableName, &'static str),
+    few: [&'static str; 6],
+    fifteen: &'static str,
+}
+
+const CALM: Totalled = Totalled {
+    unit: NEVER_OUT,
+    few: [
+        NO_SAMPLE,
+        ONE_CALM,
+        NOTHING_SHORT,
+        THREE_CALM,
+        FOUR_CALM,
+        FIVE_CALM,
+    ],
+    fifteen: FIFTEEN_CALM,
+};
+
+const SHORT: Totalled = Totalled {
+    unit: ALWAYS_OUT,
+    few: [
+        NO_SAMPLE,
+        ONE_SAMPLE,
+        ALL_SHORT,
+        THREE_SHORT,
+        FOUR_SHORT,
+        FIVE_SHORT,
+    ],
+    fifteen: FIFTEEN_SHORT,
+};
+
+// A moment of a campaign: how many samples were given out, the ranges that were deposited, how many samples these
+// have, and how many workers it takes at least, each of which deposits its share before it claims another.
+type Moment = (u32, &'static str, usize, usize);
+
+// All moments of a campaign of five samples in blocks of two: whatever was given out, each choice of its shares may
+// be deposited.
+const MOMENTS: [Moment; 15] = [
+    (0, "none", 0, 1),
+    (2, "none", 0, 1),
+    (2, "0..1", 2, 1),
+    (4, "none", 0, 2),
+    (4, "0..1", 2, 1),
+    (4, "2..3", 2, 2),
+    (4, "0..3", 4, 1),
+    (5, "none", 0, 3),
+    (5, "0..1", 2, 2),
+    (5, "2..3", 2, 2),
+    (5, "4..4", 1, 3),
+    (5, "0..3", 4, 1),
+    (5, "0..1 4..4", 3, 2),
+    (5, "2..4", 3, 2),
+    (5, "0..4", 5, 1),
+];
+
+// Those where all that was given out is deposited.
+const ENDS: [Moment; 4] = [
+    (0, "none", 0, 1),
+    (2, "0..1", 2, 1),
+    (4, "0..3", 4, 1),
+    (5, "0..4", 5, 1),
+];
+
+// Those of a campaign of four samples where nothing is deposited.
+const BEGINNINGS: [Moment; 3] = [(0, "none", 0, 1), (2, "none", 0, 1), (4, "none", 0, 2)];
+
+// What a gate says behind them.
+const RUNNING: &str = "target 5 sealed no cancelled no";
+
+const CANCELLED: &str = "target 5 sealed yes cancelled yes";
+
+const RUNNING_FOUR: &str = "target 4 sealed no cancelled no";
+
+const FIRST_TWO: &str = "gate next 4 target 4 sealed no cancelled no
+ranges 0..1
+";
+
+const LAST_OF_FOUR: &str = "gate next 4 target 4 sealed yes cancelled no
+ranges 0..3
 ";
 
 // How a console ended, and what was written.
@@ -76,21 +223,18 @@ fn tell<T: Threads + Wait + Sync, C: Console + Send, P: Pause + Sync>(
     Ok(Told { status, out, err })
 }
 
-// The same over a zone that never falls short, five samples and lines in memory.
+// The same over a zone with a unit, five samples and lines in memory.
 fn tell_lines<T: Threads + Wait + Sync>(
     rt: &T,
     alloc: Global,
+    unit: (TableName, &str),
+    workers: usize,
     lines: &mut MemoryConsole,
 ) -> Result<Told, Fail> {
-    let tables = [ZONE, NEVER_OUT, DAY];
-    tell(
-        rt,
-        alloc,
-        &tables,
-        &["--samples", "5", "--block", "2"],
-        lines,
-        &NoPause,
-    )
+    let tables = [ZONE, unit, DAY];
+    let workers = format!(in alloc; "{workers}")?;
+    let options = ["--samples", "5", "--block", "2", "--workers", &workers];
+    tell(rt, alloc, &tables, &options, lines, &NoPause)
 }
 
 // Adds a line that is too long.
@@ -108,41 +252,118 @@ fn push_lines(lines: &mut MemoryConsole) -> Result<(), OutOfMemory> {
     lines.push(b"extend 1")
 }
 
+// The report of a moment, with what its gate says behind the samples that were given out.
+fn report_of(
+    alloc: Global,
+    moment: &Moment,
+    state: &str,
+    totals: &[&str; 6],
+) -> Result<String, Fail> {
+    let (next, ranges, samples, _) = *moment;
+    let Some(totals) = totals.get(samples) else {
+        return Err("no such totals".into());
+    };
+    Ok(format!(in alloc; "gate next {next} {state}\nranges {ranges}\n{totals}")?)
+}
+
+// Whether bytes are the report of one of some moments at which so many workers can be.
+fn is_lawful(
+    alloc: Global,
+    bytes: &[u8],
+    moments: &[Moment],
+    state: &str,
+    totals: &[&str; 6],
+    workers: usize,
+) -> Result<bool, Fail> {
+    for moment in moments {
+        let report = report_of(alloc, moment, state, totals)?;
+        if moment.3 <= workers && bytes == report.as_bytes() {
+            return Ok(true);
+        }
+    }
+    Ok(false)
+}
+
+// What stands in front of two texts at the end of bytes, if they stand there.
+fn in_front<'b>(bytes: &'b [u8], behind: &str, last: &str) -> Option<&'b [u8]> {
+    bytes
+        .strip_suffix(last.as_bytes())?
+        .strip_suffix(behind.as_bytes())
+}
+
 #[test]
 fn lines_are_answered(rt: HostRuntime) -> Result<(), Fail> {
     let alloc = rt.alloc();
     let mut lines = MemoryConsole::new(alloc);
     push_lines(&mut lines)?;
-    let told = tell_lines(&rt, alloc, &mut lines)?;
+    let told = tell_lines(&rt, alloc, NEVER_OUT, 1, &mut lines)?;
     assert_eq!(rt; told.status, Status::Done);
-    assert_eq!(rt; told.out.bytes(), ANSWERS.as_bytes());
+    let wanted = format!(in alloc; "{ANSWERS}{FIFTEEN_CALM}")?;
+    assert_eq!(rt; told.out.bytes(), wanted.as_bytes());
     assert_eq!(rt; told.err.bytes(), b"".as_slice());
     Ok(())
 }
 
-// A report in mid-run has the gate and what was deposited by then; the rest is the same.
-#[test]
-fn a_report_comes_first(rt: HostRuntime) -> Result<(), Fail> {
-    let alloc = rt.alloc();
+// Whether a report in mid-run is that of a moment at which so many workers can be, and the rest is the same.
+fn is_reported_first<T: Threads + Wait + Sync>(
+    rt: &T,
+    alloc: Global,
+    case: &Totalled,
+    workers: usize,
+) -> Result<bool, Fail> {
     let mut lines = MemoryConsole::new(alloc);
     lines.push(b"report")?;
     push_lines(&mut lines)?;
-    let told = tell_lines(&rt, alloc, &mut lines)?;
-    assert_eq!(rt; told.status, Status::Done);
-    assert!(rt; told.out.bytes().starts_with(b"gate next "));
-    assert!(rt; told.out.bytes().ends_with(ANSWERS.as_bytes()));
+    let told = tell_lines(rt, alloc, case.unit, workers, &mut lines)?;
+    if told.status != Status::Done {
+        return Ok(false);
+    }
+    match in_front(told.out.bytes(), ANSWERS, case.fifteen) {
+        Some(report) => is_lawful(alloc, report, &MOMENTS, RUNNING, &case.few, workers),
+        None => Ok(false),
+    }
+}
+
+#[test]
+fn a_report_comes_first(rt: HostRuntime) -> Result<(), Fail> {
+    let alloc = rt.alloc();
+    for workers in 1..=3 {
+        let is_calm = is_reported_first(&rt, alloc, &CALM, workers)?;
+        assert!(rt; is_calm, "nothing short, {workers} workers");
+        let is_short = is_reported_first(&rt, alloc, &SHORT, workers)?;
+        assert!(rt; is_short, "all short, {workers} workers");
+    }
     Ok(())
+}
+
+// Whether a cancel is told, and behind it the report of all that was given out.
+fn is_cancel_told<T: Threads + Wait + Sync>(
+    rt: &T,
+    alloc: Global,
+    case: &Totalled,
+    workers: usize,
+) -> Result<bool, Fail> {
+    let mut lines = MemoryConsole::new(alloc);
+    lines.push(b"cancel")?;
+    let told = tell_lines(rt, alloc, case.unit, workers, &mut lines)?;
+    if told.status != Status::Cancelled || told.err.bytes() != b"cancelled\n".as_slice() {
+        return Ok(false);
+    }
+    match told.out.bytes().strip_prefix(b"cancelled\n".as_slice()) {
+        Some(report) => is_lawful(alloc, report, &ENDS, CANCELLED, &case.few, workers),
+        None => Ok(false),
+    }
 }
 
 #[test]
 fn a_cancel_is_told(rt: HostRuntime) -> Result<(), Fail> {
     let alloc = rt.alloc();
-    let mut lines = MemoryConsole::new(alloc);
-    lines.push(b"cancel")?;
-    let told = tell_lines(&rt, alloc, &mut lines)?;
-    assert_eq!(rt; told.status, Status::Cancelled);
-    assert!(rt; told.out.bytes().starts_with(b"cancelled\ngate next "));
-    assert_eq!(rt; told.err.bytes(), b"cancelled\n".as_slice());
+    for workers in 1..=3 {
+        let is_calm = is_cancel_told(&rt, alloc, &CALM, workers)?;
+        assert!(rt; is_calm, "nothing short, {workers} workers");
+        let is_short = is_cancel_told(&rt, alloc, &SHORT, workers)?;
+        assert!(rt; is_short, "all short, {workers} workers");
+    }
     Ok(())
 }
 
@@ -153,7 +374,7 @@ fn a_failed_read_ends_it(rt: HostRuntime) -> Result<(), Fail> {
     lines.push(b"extend 1")?;
     lines.push(b"seal")?;
     lines.fail(2)?;
-    let told = tell_lines(&rt, alloc, &mut lines)?;
+    let told = tell_lines(&rt, alloc, NEVER_OUT, 1, &mut lines)?;
     assert_eq!(rt; told.status, Status::ReadFault);
     assert_eq!(rt; told.out.bytes(), b"target 6\n".as_slice());
     assert_eq!(rt; told.err.bytes(), b"read fault\n".as_slice());
@@ -280,13 +501,16 @@ fn met<T: Threads + Wait + Sync>(
     Ok(out)
 }
 
-// The console's second call waits until a share has come, and each share until that call has begun.
+// The console's second call waits until a share has come, and each share until that call has begun: so the report
+// has none.
 #[test]
 fn workers_run_while_lines_are_read(rt: HostRuntime) -> Result<(), Fail> {
     let alloc = rt.alloc();
     let out = met(&rt, alloc, "2", 2, 0)?;
-    assert!(rt; out.bytes().starts_with(b"gate next "));
-    assert!(rt; out.bytes().ends_with(ALL_FOUR.as_bytes()));
+    let Some(report) = in_front(out.bytes(), LAST_OF_FOUR, FOUR_SHORT) else {
+        return Err("the final report isn't that of all four".into());
+    };
+    assert!(rt; is_lawful(alloc, report, &BEGINNINGS, RUNNING_FOUR, &SHORT.few, 2)?);
     Ok(())
 }
 
@@ -296,7 +520,7 @@ fn workers_run_while_lines_are_read(rt: HostRuntime) -> Result<(), Fail> {
 fn a_report_sums_what_was_deposited(rt: HostRuntime) -> Result<(), Fail> {
     let alloc = rt.alloc();
     let out = met(&rt, alloc, "1", 1, 2)?;
-    let wanted = format!(in alloc; "{FIRST_TWO}{ALL_SHORT}{ALL_FOUR}")?;
+    let wanted = format!(in alloc; "{FIRST_TWO}{ALL_SHORT}{LAST_OF_FOUR}{FOUR_SHORT}")?;
     assert_eq!(rt; out.bytes(), wanted.as_bytes());
     Ok(())
 }

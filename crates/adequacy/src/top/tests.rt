@@ -89,7 +89,7 @@ zone A sum 2880 mean 1440.000 error 0.000
 cut A hours 48 unserved 2880
 ";
 
-const ONE_SAMPLE: &str = "samples 1
+pub(super) const ONE_SAMPLE: &str = "samples 1
 hours sum 24 mean 24.000 error -
 days sum 1 mean 1.000 error -
 events sum 1 mean 1.000 error -
