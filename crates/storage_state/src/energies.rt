@@ -1,4 +1,4 @@
-ghost use Rattle.std.specs.Prelude.{◌≡◌, ◌<◌, ◌≤◌};
+ghost use Rattle.std.specs.Prelude.{◌≡◌, ◌/◌, ◌<◌, ◌≤◌};
 ghost use Rattle.storage_state.specs.Energy.{caps_of as caps, energy_after as energy_then, carried};
 
 use crate::storages::Caps;
@@ -10,12 +10,20 @@ pub(crate) fn caps_of(storage: &Storage, energy: u32) -> Caps
     requires most { energy ≤ storage.now.energy }
     ensures { result ≡ caps storage.now energy }
 {
-    let room = (storage.energy - energy) / u32::from(storage.charge_eff);
+    let room = quotient(storage.energy - energy, u32::from(storage.charge_eff));
     let stored = u64::from(energy) * u64::from(storage.discharge_eff) / 1_000_000;
     Caps {
         charge: storage.charge.min(room),
         discharge: u64::from(storage.discharge).min(stored) as u32,
     }
+}
+
+/// The whole part of a quotient. Where it is 0, as the room of a full storage is, nothing is divided.
+fn quotient(amount: u32, by: u32) -> u32
+    requires { 0 < by }
+    ensures { result ≡ amount / by }
+{
+    if amount < by { 0 } else { amount / by }
 }
 
 /// The energy in kWh after an hour with this charge and discharge in MW. What is taken is rounded up.
@@ -27,8 +35,13 @@ pub(crate) fn energy_after(storage: &Storage, energy: u32, charge: u32, discharg
     ensures value { result ≡ energy_then storage.now energy charge discharge }
     ensures most { result ≤ storage.now.energy }
 {
+    let added = charge * u32::from(storage.charge_eff);
+    // In most hours nothing is taken, and to divide by an efficiency costs more than all else here.
+    if discharge == 0 {
+        return energy + added;
+    }
     let taken = (u64::from(discharge) * 1_000_000).div_ceil(u64::from(storage.discharge_eff));
-    energy - taken as u32 + charge * u32::from(storage.charge_eff)
+    energy - taken as u32 + added
 }
 
 /// The energy in kWh that is kept until the next hour.
