@@ -199,7 +199,24 @@ fn system_of(rt: &impl Abort, alloc: Global, plan: &Plan<'_>) -> Result<System, 
     Ok(draft.finish())
 }
 
-// The totals of the first samples.
+// The totals of a runner's first samples.
+fn first_totals(
+    rt: &impl Abort,
+    alloc: Global,
+    runner: &mut Runner<'_>,
+    samples: u32,
+) -> Result<Totals, OutOfMemory>
+    ensures { IfOk result (λ totals. length totals.zones ≡ zone_count runner.old.system) }
+{
+    let mut totals = Totals::new(alloc, runner.zones())?;
+    'samples: for sample in 0..samples {
+        assert!(rt; totals.samples() < 1_000_000);
+        totals.add(runner.run(sample))?;
+    }
+    Ok(totals)
+}
+
+// The totals of a system's first samples.
 fn study(
     rt: &impl Abort,
     alloc: Global,
@@ -210,12 +227,10 @@ fn study(
     ensures { IfOk result (λ totals. length totals.zones ≡ zone_count system.now) }
 {
     let mut runner = Runner::new(alloc, system, seed)?;
-    let mut totals = Totals::new(alloc, system.zones())?;
-    'samples: for sample in 0..samples {
-        assert!(rt; totals.samples() < 1_000_000);
-        totals.add(runner.run(sample))?;
-    }
-    Ok(totals)
+    let totals = first_totals(rt, alloc, &mut runner, samples);
+    // Moved whole into the call, since a drop here would drop each of its lists in this function.
+    drop(runner);
+    totals
 }
 
 // A study, and what its sums are: hours, days, events and unserved energy, the unserved energy of each
@@ -644,7 +659,6 @@ fn four_of(
     let work = SampleWork::new(system, 1, precision);
     let mut runner = Runner::new(alloc, system, 1)?;
     let four = gathered(alloc, &work, &mut runner);
-    // Moved whole into the call, since a drop here would drop each of its lists in this function.
     drop(runner);
     four
 }

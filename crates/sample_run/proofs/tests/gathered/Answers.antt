@@ -24,8 +24,7 @@ merge-requires g c =
 
 pub merge-requires-2 : goal.merge-requires-2
 merge-requires-2 g c =
-    let serves = c.in_ok-later.ensures.same c.args.work.now in
-    (
+    let serves = c.in_ok-later.ensures.same c.args.work.now in (
       range 2 2 ∷ [],
       range 0 2 ∷ [],
       c.in_ok-merge.ensures.both [] (range 2 2 ∷ []) one c.in_ok-sum.ensures (c.in_ok-later.ensures.sum c.args.work.now c.requires),
@@ -37,8 +36,7 @@ pub enough-enough-requires : goal.enough-enough-requires
 enough-enough-requires g c =
     let serves = c.in_ok-later.ensures.same c.args.work.now in
     let later = c.in_ok-merge.ensures.both [] (range 2 2 ∷ []) one c.in_ok-sum.ensures (c.in_ok-later.ensures.sum c.args.work.now c.requires) in
-    let earlier = c.in_ok-earlier.ensures.sum c.args.work.now (serves.0 c.requires) in
-    (
+    let earlier = c.in_ok-earlier.ensures.sum c.args.work.now (serves.0 c.requires) in (
       range 2 2 ∷ range 0 2 ∷ [],
       c.in_ok-copy.ensures (range 2 2 ∷ range 0 2 ∷ []) (c.in_ok-merge-2.ensures.both (range 2 2 ∷ []) (range 0 2 ∷ []) both later earlier),
       omega (arith, total-cons (λ sample. 1) (range 2 2) (range 0 2 ∷ []), weight-ones 2 2),
