@@ -210,7 +210,24 @@ fn study(
     ensures { IfOk result (λ totals. length totals.zones ≡ zone_count system.now) }
 {
     let mut runner = Runner::new(alloc, system, seed)?;
-    let mut totals = Totals::new(alloc, system.zones())?;
+    let totals = totals_of(rt, alloc, &mut runner, system.zones(), samples);
+    // Moved whole into the call, since a drop here would drop each of its lists in this function.
+    drop(runner);
+    totals
+}
+
+// The totals of a runner's first samples.
+fn totals_of(
+    rt: &impl Abort,
+    alloc: Global,
+    runner: &mut Runner<'_>,
+    zones: u8,
+    samples: u32,
+) -> Result<Totals, OutOfMemory>
+    requires { zones ≡ zone_count runner.old.system }
+    ensures { IfOk result (λ totals. length totals.zones ≡ zones) }
+{
+    let mut totals = Totals::new(alloc, zones)?;
     'samples: for sample in 0..samples {
         assert!(rt; totals.samples() < 1_000_000);
         totals.add(runner.run(sample))?;
