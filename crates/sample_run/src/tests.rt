@@ -1,13 +1,20 @@
-ghost use Rattle.std.specs.Prelude.{◌≡◌, ◌+◌, ◌<◌, ◌≤◌, [], All, IfOk, OnOk, length};
+ghost use Rattle.std.specs.Prelude.{◌≡◌, ◌+◌, ◌<◌, ◌≤◌, ◌↔◌, [], ◌∷◌, All, IfOk, IfSome, OnOk, length};
+ghost use Rattle.campaign_core.specs.Ranges.{range};
+ghost use Rattle.campaign_core.specs.Shares.{IsShare};
 ghost use Rattle.system_model.specs.System.{zone_count, interface_count};
+ghost use Rattle.sample_totals.specs.Estimates.{IsPrecision};
 
-use crate::Runner;
-use ra_base::{Amounts, OutOfMemory};
-use sample_totals::{Part, Totals};
+use crate::{Runner, SampleWork};
+use campaign_core::{Job, Share, Work};
+use ra_base::{Amounts, OutOfMemory, Text};
+use sample_totals::{HourOutcome, Part, Recorder, RecorderError, Totals};
 use std::alloc::Global;
 use std::process::Abort;
 use std::test::Fail;
 use system_model::{Draft, Interface, Line, Rates, Storage, System, Unit};
+
+// A type whose values may move between threads, and that they may share.
+fn is_shared<T: Send + Sync>() {}
 
 // The parts of a small system. Load and variable generation go hour by hour, and in an hour zone by zone.
 #[derive(Drop)]
@@ -192,7 +199,24 @@ fn system_of(rt: &impl Abort, alloc: Global, plan: &Plan<'_>) -> Result<System, 
     Ok(draft.finish())
 }
 
-// The totals of the first samples.
+// The totals of a runner's first samples.
+fn first_totals(
+    rt: &impl Abort,
+    alloc: Global,
+    runner: &mut Runner<'_>,
+    samples: u32,
+) -> Result<Totals, OutOfMemory>
+    ensures { IfOk result (λ totals. length totals.zones ≡ zone_count runner.old.system) }
+{
+    let mut totals = Totals::new(alloc, runner.zones())?;
+    'samples: for sample in 0..samples {
+        assert!(rt; totals.samples() < 1_000_000);
+        totals.add(runner.run(sample))?;
+    }
+    Ok(totals)
+}
+
+// The totals of a system's first samples.
 fn study(
     rt: &impl Abort,
     alloc: Global,
@@ -203,12 +227,10 @@ fn study(
     ensures { IfOk result (λ totals. length totals.zones ≡ zone_count system.now) }
 {
     let mut runner = Runner::new(alloc, system, seed)?;
-    let mut totals = Totals::new(alloc, system.zones())?;
-    'samples: for sample in 0..samples {
-        assert!(rt; totals.samples() < 1_000_000);
-        totals.add(runner.run(sample))?;
-    }
-    Ok(totals)
+    let totals = first_totals(rt, alloc, &mut runner, samples);
+    // Moved whole into the call, since a drop here would drop each of its lists in this function.
+    drop(runner);
+    totals
 }
 
 // A study, and what its sums are: hours, days, events and unserved energy, the unserved energy of each
@@ -575,5 +597,201 @@ fn a_mixed_study_agrees_with_an_independent_program(rt: HostRuntime) -> Result<(
         ],
     };
     agrees(&rt, rt.alloc(), &case)?;
+    Ok(())
+}
+
+#[test]
+fn threads_may_have_runners_and_work() {
+    is_shared::<Runner<'_>>();
+    is_shared::<SampleWork<'_>>();
+}
+
+// The sum of so many samples from one on, as any who share out work come to it.
+fn ran<W: Work, J: Job<W> + Send>(
+    alloc: Global,
+    job: &mut J,
+    first: u32,
+    count: u32,
+) -> Result<W::Sum, OutOfMemory>
+    requires { IsShare (range first count) }
+    ensures sum { IfOk result (λ sum. (work : W) → J.serves job.old work
+        → W.stands work sum (range first count ∷ [])) }
+    ensures same { (work : W) → (J.serves job.old work ↔ J.serves job.new work) }
+{
+    let done = match job.run(alloc, Share::of(first, count)) {
+        Ok(done) => done,
+        Err((share, none)) => {
+            share.abandon();
+            return Err(none);
+        }
+    };
+    let (share, sum) = done.into_parts();
+    share.abandon();
+    Ok(sum)
+}
+
+// The sum of the first four samples by two shares, the later one first, and whether they are enough.
+fn gathered<W: Work, J: Job<W> + Send>(
+    alloc: Global,
+    work: &W,
+    job: &mut J,
+) -> Result<(W::Sum, bool), OutOfMemory>
+    requires { J.serves job.old work.now }
+{
+    let mut sum = work.empty(alloc)?;
+    let later = ran(alloc, job, 2, 2)?;
+    work.merge(&mut sum, &later)?;
+    let earlier = ran(alloc, job, 0, 2)?;
+    work.merge(&mut sum, &earlier)?;
+    let copy = work.copy(alloc, &sum)?;
+    let enough = work.enough(&copy);
+    Ok((copy, enough))
+}
+
+// The same, of a system and a precision.
+fn four_of(
+    alloc: Global,
+    system: &System,
+    precision: Option<u16>,
+) -> Result<(Totals, bool), OutOfMemory>
+    requires { IfSome precision IsPrecision }
+{
+    let work = SampleWork::new(system, 1, precision);
+    let mut runner = Runner::new(alloc, system, 1)?;
+    let four = gathered(alloc, &work, &mut runner);
+    drop(runner);
+    four
+}
+
+// What the first four samples come to.
+fn has_four(rt: &impl Abort, totals: &Totals) {
+    assert_eq!(rt; totals.samples(), 4);
+    has_sums(rt, totals, [6, 4, 4, 90]);
+    has_cuts(rt, totals, &[(1, 6, 90)]);
+}
+
+fn four_are(
+    rt: &impl Abort,
+    alloc: Global,
+    system: &System,
+    precision: Option<u16>,
+    enough: bool,
+) -> Result<(), OutOfMemory>
+    requires { IfSome precision IsPrecision }
+{
+    let (totals, are_enough) = four_of(alloc, system, precision)?;
+    has_four(rt, &totals);
+    assert_eq!(rt; are_enough, enough);
+    Ok(())
+}
+
+// In order, and by shares. The sum of squares is 2,100, and 10^6 * (4 * 2,100 - 90^2) is at most
+// 112^2 * 90^2 * 3 and above that with 111. By the hours 333 would be too few.
+fn four_are_known(rt: &impl Abort, alloc: Global, system: &System) -> Result<(), OutOfMemory> {
+    has_four(rt, &study(rt, alloc, system, 1, 4)?);
+    four_are(rt, alloc, system, Some(112), true)?;
+    four_are(rt, alloc, system, Some(111), false)?;
+    four_are(rt, alloc, system, None, true)?;
+    Ok(())
+}
+
+#[test]
+fn shares_in_another_order_give_the_same_totals(rt: HostRuntime) -> Result<(), Fail> {
+    // A unit of 10 MW that changes its state each hour. Of the first four samples under this seed the last
+    // one starts out, by an independent program: it lacks 10, 10 and 10 MW, the others 20 MW in one hour.
+    let plan = Plan {
+        zones: 1,
+        units: &[unit(0, 10, 1_000_000_000, 1_000_000_000)],
+        interfaces: &[],
+        lines: &[],
+        storages: &[],
+        hours: 3,
+        load: &[10, 20, 10],
+        variable: &[0, 0, 0],
+    };
+    let system = system_of(&rt, rt.alloc(), &plan)?;
+    let known = four_are_known(&rt, rt.alloc(), &system);
+    drop(system);
+    known?;
+    Ok(())
+}
+
+// Marks each hour: one with a cut, and one without.
+#[derive(Drop)]
+struct Marks {
+    text: Text,
+}
+
+impl Recorder for Marks {
+    ghost use Rattle.std.specs.Prelude.{◌==◌, [], ◌∷◌, if◌then◌else◌};
+
+    ghost seen = { λ marks. record {
+      kind = 9;
+      line = λ outcome. (if outcome.cut == 0 then 46 else 33) ∷ [];
+      text = marks.text;
+    } };
+
+    ghost refusals = { λ marks. 0 };
+
+    fn kind(&self) -> u8 {
+        9
+    }
+
+    fn hour(&mut self, outcome: &HourOutcome) -> Result<(), RecorderError> {
+        let mark = if outcome.cut == 0 { b'.' } else { b'!' };
+        match self.text.push(&[mark]) {
+            Ok(()) => Ok(()),
+            Err(OutOfMemory) => Err(RecorderError::OutOfMemory),
+        }
+    }
+
+    fn text(&self) -> &[u8] {
+        self.text.bytes()
+    }
+}
+
+// Gives the hours of the first sample to recorders.
+fn trace_first(
+    rt: &impl Abort,
+    alloc: Global,
+    system: &System,
+    recorders: &mut [Marks],
+) -> Result<(), OutOfMemory> {
+    let mut runner = Runner::new(alloc, system, 1)?;
+    let traced = runner.trace(0, recorders);
+    drop(runner);
+    assert!(rt; traced.is_ok());
+    Ok(())
+}
+
+#[test]
+fn a_trace_gives_each_hour_to_each_recorder(rt: HostRuntime) -> Result<(), Fail> {
+    // In the second hour the storage covers the whole load.
+    let plan = Plan {
+        zones: 1,
+        units: &[],
+        interfaces: &[],
+        lines: &[],
+        storages: &[LOSSY],
+        hours: 4,
+        load: &[30, 20, 30, 30],
+        variable: &[0, 0, 0, 0],
+    };
+    let alloc = rt.alloc();
+    let mut recorders = [
+        Marks {
+            text: Text::new(alloc),
+        },
+        Marks {
+            text: Text::new(alloc),
+        },
+    ];
+    let system = system_of(&rt, alloc, &plan)?;
+    let traced = trace_first(&rt, alloc, &system, &mut recorders);
+    drop(system);
+    traced?;
+    for recorder in &recorders {
+        assert_eq!(rt; recorder.text(), b"!.!!".as_slice());
+    }
     Ok(())
 }
