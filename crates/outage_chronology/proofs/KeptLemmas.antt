@@ -1,13 +1,11 @@
 -- What a chronology keeps at the start of a sample, and from hour to hour.
-use Rattle.std.proofs.Common.{◌≡◌, ℕ, suc, ◌+◌, ◌*◌, ◌^◌, ◌<◌, ◌≤◌, Bool, true, false, not, cond, nat_lt, ltb, List, ◌++◌, length, take, drop, get_or, filter, refl, sym, ap, ◌∙◌, arith, subst, ⊎_elim, ◌↔◌, add-one}
+use Rattle.std.proofs.Common.{◌≡◌, ℕ, suc, ◌+◌, ◌*◌, ◌^◌, ◌<◌, ◌≤◌, Bool, true, false, not, cond, nat_lt, ltb, List, length, get_or, filter, refl, sym, ap, ◌∙◌, arith, subst, ⊎_elim, ◌↔◌, add-one}
 use Rattle.std.proofs.lemmas.Bool.{cases_lt, lt-ltb, le-ltb}
-use Rattle.std.proofs.lemmas.Nat.{mul-le}
-use Rattle.std.proofs.lemmas.List.{take-append-le, take_all}
 use Rattle.system_model.specs.declared.components.Rates.{Rates}
 use Rattle.system_model.specs.Rates.{out_weight, up_weight}
 use Rattle.system_model.specs.System.{SystemParts, IsValid, hour_count}
-use Rattle.sample_streams.specs.Draw.{Draws, draw, next_of, behind}
-use Rattle.sample_streams.proofs.Laws.{law_hour_draw, law_next_hour}
+use Rattle.sample_streams.specs.Draw.{draw}
+use Rattle.sample_streams.specs.HourDraws.{DrawnHour}
 use Rattle.outage_chronology.specs.declared.thresholds.Thresholds.{Thresholds}
 use Rattle.outage_chronology.specs.Outages.{component_count, component_rates, starts_out, fails, is_repaired, is_up, is_up_with, was_up, differ, changes, changes_in}
 use Rattle.outage_chronology.specs.Masks.{up_mask, says_up, IsMask, compared, AreOfStates, turns, turned, next_state, first_state}
@@ -15,7 +13,7 @@ use Rattle.outage_chronology.proofs.MaskSteps.{says-mask}
 use Rattle.outage_chronology.proofs.Passing.{passing_alike}
 use Rattle.std.specs.List.{range_with_len}
 use Rattle.outage_chronology.specs.Thresholds.{AreOfRates, AreThresholds}
-use Rattle.outage_chronology.specs.Kept.{AreUpMasks, AreFresh, IsKept}
+use Rattle.outage_chronology.specs.Kept.{AreUpMasks, IsKept}
 
 -- ---- one component
 same_test : (a b c d : ℕ) → ((a < b) ↔ (c < d)) → ltb a b ≡ ltb c d
@@ -54,45 +52,28 @@ next-is rates up word start failure repair small are =
     ∙ ap (λ b. cond up (not b) (nat_lt (compared word) repair)) (same_test (compared word) failure (word * 1000000000) (rates.f * 2 ^ 32) (are.failure word small))
     ∙ ap (λ b. cond up (not (fails rates word)) b) (same_test (compared word) repair (word * 1000000000) (rates.r * 2 ^ 32) (are.repair word small))
 
--- ---- lists
--- a list of the same length that is written over another
-pub written_over : (old new : List ℕ) (n : ℕ) → length old ≡ n → length new ≡ n → take n (new ++ drop (length new) old) ≡ new
-written_over old new n a b = take-append-le n new (drop (length new) old) (omega arith) ∙ take_all n new (omega arith)
-
 -- ---- sizes
 pub few_components : (s : SystemParts) → IsValid s → component_count s ≤ 2688
 few_components s valid = omega (arith, valid.within.units.most, valid.within.storages.most, valid.within.lines.most)
 
-early_place : (s : SystemParts) (hour : ℕ) → IsValid s → hour < hour_count s → hour * component_count s + component_count s < 2 ^ 68
-early_place s hour valid early =
-    let few = few_components s valid in
-    let hours : hour ≤ 8784 = omega (arith, valid.within.hours.most) in
-    omega (arith, mul-le hour (component_count s) 8784 2688 hours few)
-
 -- ---- all components
--- the words are the next ones of the stream
-pub record AreNext (draws : Draws) (words : List ℕ) : Type 0 where
-  pub each : (k : ℕ) → k < length words → get_or words k 0 ≡ next_of (behind k draws)
-  pub small : (k : ℕ) → k < length words → get_or words k 0 < 2 ^ 32
+-- the words are the draws of an hour
+pub record AreDraws (draws : DrawnHour) (words : List ℕ) : Type 0 where
+  pub each : (k : ℕ) → k < draws.components → get_or words k 0 ≡ draw draws.components draws.seed draws.sample draws.hour k
+  pub small : (k : ℕ) → k < draws.components → get_or words k 0 < 2 ^ 32
 
 pub masks-are : (s : SystemParts) (seed sample hour : ℕ) (masks : List ℕ) → AreUpMasks s seed sample hour masks → (k : ℕ) → k < length masks → IsMask (get_or masks k 0)
 masks-are s seed sample hour masks are k l =
     let is = are.each k (omega (arith, are.len)) in
     is ∙ ap up_mask (sym (ap says_up is ∙ says-mask (is_up s seed sample hour k)))
 
--- the stream behind an hour's draws, and those draws
-draws-then : (s : SystemParts) (hour : ℕ) (draws next : Draws) (words : List ℕ) → IsValid s → hour < hour_count s → draws.components ≡ component_count s → draws.place ≡ hour * draws.components
-    → length words ≡ component_count s → next ≡ behind (length words) draws → next ≡ record draws { place = (hour + 1) * draws.components }
-draws-then s hour draws next words valid early count place len is =
-    let e : length words ≡ draws.components = len ∙ sym count in
-    is ∙ ap (λ n. behind n draws) e ∙ law_next_hour draws hour place (rw count (early_place s hour valid early))
-
-drawn : (s : SystemParts) (hour : ℕ) (draws : Draws) (words : List ℕ) → IsValid s → hour < hour_count s → draws.components ≡ component_count s → draws.place ≡ hour * draws.components
-    → length words ≡ component_count s → AreNext draws words → (k : ℕ) → k < component_count s → get_or words k 0 ≡ draw (component_count s) draws.seed draws.sample hour k
-drawn s hour draws words valid early count place len are k l =
-    are.each k (omega arith)
-    ∙ law_hour_draw draws hour k place (omega arith) (rw count (early_place s hour valid early))
-    ∙ ap (λ n. draw n draws.seed draws.sample hour k) count
+-- those of an hour of a system
+drawn : (s : SystemParts) (hour : ℕ) (draws : DrawnHour) (words : List ℕ) → draws.components ≡ component_count s → draws.hour ≡ hour
+    → AreDraws draws words → (k : ℕ) → k < component_count s → get_or words k 0 ≡ draw (component_count s) draws.seed draws.sample hour k
+drawn s hour draws words count at are k l =
+    are.each k (omega (arith, count))
+    ∙ ap (λ n. draw n draws.seed draws.sample draws.hour k) count
+    ∙ ap (λ h. draw (component_count s) draws.seed draws.sample h k) at
 
 -- where the masks were and are those of the states, the places that turn are those that change
 changes-are : (s : SystemParts) (seed sample hour : ℕ) (before masks words fails repairs changed : List ℕ)
@@ -122,14 +103,12 @@ changes-are s seed sample hour before masks words fails repairs changed was is g
     differ-turned false true = refl
     differ-turned false false = refl
 
-pub started : (s : SystemParts) (draws next : Draws) (thresholds : Thresholds) (words before masks of_states changed : List ℕ) (space : ℕ)
+pub started : (s : SystemParts) (draws : DrawnHour) (thresholds : Thresholds) (words before masks of_states changed : List ℕ) (space : ℕ)
     → IsValid s
     → draws.components ≡ component_count s
-    → draws.place ≡ 0
+    → draws.hour ≡ 0
     → AreThresholds s thresholds
-    → length words ≡ component_count s
-    → AreNext draws words
-    → next ≡ behind (length words) draws
+    → AreDraws draws words
     → length masks ≡ component_count s
     → length of_states ≡ component_count s
     → AreOfStates masks thresholds.fails.items thresholds.is_repaired.items of_states (component_count s)
@@ -137,49 +116,47 @@ pub started : (s : SystemParts) (draws next : Draws) (thresholds : Thresholds) (
     → ((k : ℕ) → k < component_count s → get_or masks k 0 ≡ up_mask (next_state (says_up (get_or before k 0)) (get_or words k 0) (get_or thresholds.starts_out.items k 0) (get_or thresholds.starts_out.items k 0)))
     → changed ≡ filter (λ k. turns (says_up (get_or before k 0)) (get_or words k 0) (get_or thresholds.starts_out.items k 0) (get_or thresholds.starts_out.items k 0)) (range_with_len 0 (component_count s))
     → component_count s ≤ space
-    → IsKept s 0 next thresholds words masks of_states changed space
+    → IsKept s 0 draws thresholds masks of_states changed space
 unfolding is_up is_up_with
-started s draws next thresholds words before masks of_states changed space valid count place decided len are next_is size states_len states was gone listed large =
-    let first : draws.place ≡ 0 * draws.components = omega arith in
-    let next_place = draws-then s 0 draws next words valid valid.hour count first len next_is in
+started s draws thresholds words before masks of_states changed space valid count first decided are size states_len states was gone listed large =
     let each : (k : ℕ) → k < component_count s → get_or masks k 0 ≡ up_mask (is_up s draws.seed draws.sample 0 k) =
     λ k l.
     let word = get_or words k 0 in
     let start = get_or thresholds.starts_out.items k 0 in
     gone k l
     ∙ ap (λ m. up_mask (next_state (says_up m) word start start)) (was k l)
-    ∙ ap up_mask (first-is (component_rates s k) word _ _ _ (are.small k (omega arith)) (decided.each k l))
-    ∙ ap (λ w. up_mask (not (starts_out (component_rates s k) w))) (drawn s 0 draws words valid valid.hour count first len are k l) in
-    subst (λ (d : Draws). IsKept s 0 d thresholds words masks of_states changed space) (sym next_place) (record {
+    ∙ ap up_mask (first-is (component_rates s k) word _ _ _ (are.small k (omega (arith, count))) (decided.each k l))
+    ∙ ap (λ w. up_mask (not (starts_out (component_rates s k) w))) (drawn s 0 draws words count first are k l) in
+    record {
       valid = valid;
       in_range = valid.hour;
       components = count;
-      place = refl;
-      room = len;
+      drawn = first;
       decided = decided;
       up = record { len = size; each = each };
       states_room = states_len;
       states = states;
       changes = changes-are s draws.seed draws.sample 0 before masks words thresholds.starts_out.items thresholds.starts_out.items changed was each gone listed;
       room_for_all = large;
-    })
+    }
 
-pub stepped : (s : SystemParts) (hour : ℕ) (draws next : Draws) (thresholds : Thresholds) (old_words old_masks old_states old_changed words masks of_states changed : List ℕ) (old_space space : ℕ)
-    → IsKept s hour draws thresholds old_words old_masks old_states old_changed old_space
+pub stepped : (s : SystemParts) (hour : ℕ) (draws next : DrawnHour) (thresholds : Thresholds) (words old_masks old_states old_changed masks of_states changed : List ℕ) (old_space space : ℕ)
+    → IsKept s hour draws thresholds old_masks old_states old_changed old_space
     → hour + 1 < hour_count s
-    → length words ≡ component_count s
-    → AreNext draws words
-    → next ≡ behind (length words) draws
+    → next ≡ record draws { hour = draws.hour + 1 }
+    → AreDraws next words
     → length masks ≡ component_count s
     → length of_states ≡ component_count s
     → AreOfStates masks thresholds.fails.items thresholds.is_repaired.items of_states (component_count s)
     → ((k : ℕ) → k < component_count s → get_or masks k 0 ≡ up_mask (next_state (says_up (get_or old_masks k 0)) (get_or words k 0) (get_or thresholds.fails.items k 0) (get_or thresholds.is_repaired.items k 0)))
     → changed ≡ filter (λ k. turns (says_up (get_or old_masks k 0)) (get_or words k 0) (get_or thresholds.fails.items k 0) (get_or thresholds.is_repaired.items k 0)) (range_with_len 0 (component_count s))
     → component_count s ≤ space
-    → IsKept s (hour + 1) next thresholds words masks of_states changed space
+    → IsKept s (hour + 1) next thresholds masks of_states changed space
 unfolding is_up is_up_with
-stepped s hour draws next thresholds old_words old_masks old_states old_changed words masks of_states changed old_space space kept early len are next_is size states_len states gone listed large =
-    let next_place = draws-then s (hour + 1) draws next words kept.valid early kept.components kept.place len next_is in
+stepped s hour draws next thresholds words old_masks old_states old_changed masks of_states changed old_space space kept early is are size states_len states gone listed large =
+    let next_is : next ≡ record draws { hour = hour + 1 } = is ∙ ap (λ h. record draws { hour = h + 1 }) kept.drawn in
+    let now : DrawnHour = record draws { hour = hour + 1 } in
+    let now_are : AreDraws now words = subst (λ (d : DrawnHour). AreDraws d words) next_is are in
     let later : hour + 1 ≡ suc hour = add-one hour in
     let each : (k : ℕ) → k < component_count s → get_or masks k 0 ≡ up_mask (is_up s draws.seed draws.sample (hour + 1) k) =
     λ k l.
@@ -191,18 +168,17 @@ stepped s hour draws next thresholds old_words old_masks old_states old_changed 
     gone k l
     ∙ ap (λ m. up_mask (next_state (says_up m) word f r)) (kept.up.each k l)
     ∙ ap (λ b. up_mask (next_state b word f r)) (says-mask up)
-    ∙ ap up_mask (next-is rates up word _ f r (are.small k (omega arith)) (kept.decided.each k l))
+    ∙ ap up_mask (next-is rates up word _ f r (now_are.small k (omega (arith, kept.components))) (kept.decided.each k l))
     ∙ ap (λ w. up_mask (cond up (not (fails rates w)) (is_repaired rates w)))
-    (drawn s (hour + 1) draws words kept.valid early kept.components kept.place len are k l ∙ ap (λ h. draw (component_count s) draws.seed draws.sample h k) later)
+    (drawn s (hour + 1) now words kept.components refl now_are k l ∙ ap (λ h. draw (component_count s) draws.seed draws.sample h k) later)
     ∙ ap (λ h. up_mask (is_up s draws.seed draws.sample h k)) (sym later) in
     let was : (k : ℕ) → k < component_count s → get_or old_masks k 0 ≡ up_mask (was_up s draws.seed draws.sample (hour + 1) k) =
     λ k l. kept.up.each k l ∙ ap (λ h. up_mask (was_up s draws.seed draws.sample h k)) (sym later) in
-    subst (λ (d : Draws). IsKept s (hour + 1) d thresholds words masks of_states changed space) (sym next_place) (record {
+    subst (λ (d : DrawnHour). IsKept s (hour + 1) d thresholds masks of_states changed space) (sym next_is) (record {
       valid = kept.valid;
       in_range = early;
       components = kept.components;
-      place = refl;
-      room = len;
+      drawn = refl;
       decided = kept.decided;
       up = record { len = size; each = each };
       states_room = states_len;

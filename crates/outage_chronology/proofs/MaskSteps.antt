@@ -1,13 +1,13 @@
 -- How masks go on, step by step.
-use Rattle.std.proofs.Common.{◌≡◌, ℕ, ◌+◌, ◌<◌, ◌≤◌, ◌≢◌, ◌==◌, inl, inr, Bool, true, false, not, cond, List, [], ◌∷◌, ◌++◌, length, get_or, filter, bit_or, refl, ap, sym, ◌∙◌, subst, arith}
+use Rattle.std.proofs.Common.{◌≡◌, ℕ, ◌+◌, ◌<◌, ◌≤◌, inl, inr, Bool, true, false, List, [], ◌∷◌, ◌++◌, length, get_or, filter, bit_or, refl, ap, sym, ◌∙◌, arith}
 use Rattle.std.specs.Prelude.{slice_set}
 use Rattle.std.specs.List.{range_with_len}
-use Rattle.std.proofs.lemmas.List.{get_or-set_same, get_or-set_other, length-set, length-append}
+use Rattle.std.proofs.lemmas.List.{get_or-set_same, get_or-set_other, length-append}
 use Rattle.std.proofs.lemmas.Nat.{le_or_l, le_or_r}
 use Rattle.std.specs.Int.{w32, bit_not}
-use Rattle.std.proofs.lemmas.Bool.{ne_eqb, eq-eqb, cases_eq, cases_Bool, cond-true, cond-false}
-use Rattle.outage_chronology.specs.Masks.{up_mask, bit_of, says_up, is_below, threshold_of, AreOfStates, turns, turned, next_state}
-use Rattle.outage_chronology.proofs.Passing.{passing_alike, passing_none, passing_pushed, passing_same}
+use Rattle.std.proofs.lemmas.Bool.{cases_eq}
+use Rattle.outage_chronology.specs.Masks.{up_mask, bit_of, says_up, is_below, threshold_of, AreOfStates, turns, turned}
+use Rattle.outage_chronology.proofs.Passing.{passing_pushed, passing_same}
 
 pub says-mask : (up : Bool) → says_up (up_mask up) ≡ up
 says-mask true = refl

@@ -1,7 +1,7 @@
 -- What a chronology keeps.
-use Rattle.std.specs.Prelude.{◌≡◌, ℕ, ◌+◌, ◌*◌, ◌<◌, ◌≤◌, List, length, slice_index}
+use Rattle.std.specs.Prelude.{◌≡◌, ℕ, ◌<◌, ◌≤◌, List, length, slice_index}
 use Rattle.system_model.specs.System.{SystemParts, IsValid, hour_count}
-use Rattle.sample_streams.specs.Draw.{Draws}
+use Rattle.sample_streams.specs.HourDraws.{DrawnHour}
 use Rattle.outage_chronology.specs.declared.thresholds.Thresholds.{Thresholds}
 use Rattle.outage_chronology.specs.Outages.{component_count, is_up, changes_in}
 use Rattle.outage_chronology.specs.Masks.{up_mask, AreOfStates}
@@ -12,25 +12,23 @@ pub record AreUpMasks (system : SystemParts) (seed sample hour : ℕ) (masks : L
   pub len : length masks ≡ component_count system
   pub each : (k : ℕ) → k < component_count system → slice_index masks k ≡ up_mask (is_up system seed sample hour k)
 
--- the draws stand before those of hour 0, and there is room for all components
-pub record AreFresh (system : SystemParts) (draws : Draws) (thresholds : Thresholds) (words masks of_states : List ℕ) (space : ℕ) : Type 0 where
+-- the draws are those of hour 0, and there is room for all components
+pub record AreFresh (system : SystemParts) (draws : DrawnHour) (thresholds : Thresholds) (masks of_states : List ℕ) (space : ℕ) : Type 0 where
   pub valid : IsValid system
   pub components : draws.components ≡ component_count system
-  pub place : draws.place ≡ 0
+  pub first : draws.hour ≡ 0
   pub decided : AreThresholds system thresholds
-  pub words_room : length words ≡ component_count system
   pub masks_room : length masks ≡ component_count system
   pub states_room : length of_states ≡ component_count system
   pub room_for_all : component_count system ≤ space
 
--- the draws stand behind those of the hour, the masks are those of the hour, each component has the threshold of its
--- state, and what changed with the hour is listed; the list has room for all components
-pub record IsKept (system : SystemParts) (hour : ℕ) (draws : Draws) (thresholds : Thresholds) (words masks of_states changed : List ℕ) (space : ℕ) : Type 0 where
+-- the draws and the masks are those of the hour, each component has the threshold of its state, and what changed with
+-- the hour is listed; the list has room for all components
+pub record IsKept (system : SystemParts) (hour : ℕ) (draws : DrawnHour) (thresholds : Thresholds) (masks of_states changed : List ℕ) (space : ℕ) : Type 0 where
   pub valid : IsValid system
   pub in_range : hour < hour_count system
   pub components : draws.components ≡ component_count system
-  pub place : draws.place ≡ (hour + 1) * draws.components
-  pub room : length words ≡ component_count system
+  pub drawn : draws.hour ≡ hour
   pub decided : AreThresholds system thresholds
   pub up : AreUpMasks system draws.seed draws.sample hour masks
   pub states_room : length of_states ≡ component_count system

@@ -8,7 +8,7 @@ use crate::components::component_count;
 use crate::masks::{go_on, set_all_up, set_thresholds};
 use crate::thresholds::Thresholds;
 use ra_base::OutOfMemory;
-use sample_streams::SampleStream;
+use sample_streams::HourDraws;
 use std::alloc::Global;
 use std::marker::Model;
 use system_model::System;
@@ -21,9 +21,8 @@ use system_model::System;
 pub struct Chronology<'a> {
     system: &'a System,
     hour: u32,
-    draws: SampleStream,
+    draws: HourDraws,
     thresholds: Thresholds,
-    words: Vec<u32>,
     masks: Vec<u32>,
     // For each component the threshold of its state: below it the next word changes the state.
     of_states: Vec<u32>,
@@ -45,7 +44,7 @@ impl<'a> Model for Chronology<'a> {
       hour = c.hour;
     } };
 
-    ghost invariant = { λ c. IsKept c.system.now c.hour c.draws c.thresholds c.words.items c.masks.items
+    ghost invariant = { λ c. IsKept c.system.now c.hour c.draws c.thresholds c.masks.items
         c.of_states.items c.changed.items (vec_capacity c.changed) };
 }
 
@@ -58,15 +57,13 @@ impl<'a> Chronology<'a> {
     {
         let count = component_count(system);
         let thresholds = Thresholds::of(alloc, system)?;
-        let mut words = vec![in alloc; 0; count as usize]?;
         let mut masks = vec![in alloc; 0; count as usize]?;
         let mut of_states = vec![in alloc; 0; count as usize]?;
         let mut changed = Vec::with_capacity(alloc, count as usize)?;
-        let mut draws = SampleStream::new(seed, count);
+        let draws = HourDraws::new(alloc, seed, count)?;
         begin(
-            &mut draws,
+            &draws,
             &thresholds,
-            &mut words,
             &mut masks,
             &mut of_states,
             &mut changed,
@@ -76,7 +73,6 @@ impl<'a> Chronology<'a> {
             hour: 0,
             draws,
             thresholds,
-            words,
             masks,
             of_states,
             changed,
@@ -89,9 +85,8 @@ impl<'a> Chronology<'a> {
     {
         self.draws.start(sample);
         begin(
-            &mut self.draws,
+            &self.draws,
             &self.thresholds,
-            &mut self.words,
             &mut self.masks,
             &mut self.of_states,
             &mut self.changed,
@@ -104,11 +99,11 @@ impl<'a> Chronology<'a> {
         requires { self.old.hour + 1 < hour_count self.old.system }
         ensures { self.new ≡ record self.old { hour = self.old.hour + 1 } }
     {
-        self.draws.next_draws(&mut self.words);
+        self.draws.step();
         go_on(
             &mut self.masks,
             &mut self.of_states,
-            &self.words,
+            self.draws.words(),
             &self.thresholds.fails,
             &self.thresholds.is_repaired,
             &mut self.changed,
@@ -154,30 +149,32 @@ impl<'a> Chronology<'a> {
     }
 }
 
-/// Takes the draws of a sample's hour 0, and sets what stands then.
+/// Sets what stands at a sample's hour 0, by the draws of that hour.
 fn begin(
-    draws: &mut SampleStream,
+    draws: &HourDraws,
     thresholds: &Thresholds,
-    words: &mut [u32],
     masks: &mut [u32],
     of_states: &mut [u32],
     changed: &mut Vec<u32>,
 )
-    requires { (system : SystemParts) × AreFresh system draws.old thresholds.now words.old masks.old
-        of_states.old (vec_capacity changed.old) }
-    ensures kept { (system : SystemParts)
-        → AreFresh system draws.old thresholds.now words.old masks.old of_states.old
-        (vec_capacity changed.old)
-        → IsKept system 0 draws.new thresholds.now words.new masks.new of_states.new changed.new.items
+    requires { (system : SystemParts) × AreFresh system draws.now thresholds.now masks.old of_states.old
+        (vec_capacity changed.old) }
+    ensures { (system : SystemParts)
+        → AreFresh system draws.now thresholds.now masks.old of_states.old (vec_capacity changed.old)
+        → IsKept system 0 draws.now thresholds.now masks.new of_states.new changed.new.items
         (vec_capacity changed.new) }
-    ensures seed { draws.new.seed ≡ draws.old.seed }
-    ensures sample { draws.new.sample ≡ draws.old.sample }
 {
-    draws.next_draws(words);
     // Before hour 0 each component counts as up.
     set_all_up(masks);
     let starts_out = &thresholds.starts_out;
     of_states.copy_from_slice(starts_out);
-    go_on(masks, of_states, words, starts_out, starts_out, changed);
+    go_on(
+        masks,
+        of_states,
+        draws.words(),
+        starts_out,
+        starts_out,
+        changed,
+    );
     set_thresholds(of_states, masks, &thresholds.fails, &thresholds.is_repaired);
 }

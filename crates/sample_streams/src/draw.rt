@@ -1,10 +1,11 @@
-ghost use Rattle.std.specs.Prelude.{◌≡◌, ℕ, ◌+◌, ◌/◌, ◌%◌, ◌^◌, ◌<◌, ◌≤◌, length, slice_index};
+ghost use Rattle.std.specs.Prelude.{◌≡◌, ℕ, ◌+◌, ◌/◌, ◌%◌, ◌^◌, ◌<◌, length, slice_index};
 ghost use Rattle.sample_streams.specs.Draw.{draw, next_of, behind};
 
 use rand_chacha::ChaCha8Rng;
 use rand_core::SeedableRng;
 use rand_core::utils::NextWord;
 use std::marker::Model;
+use std::mem;
 
 /// The draws of one sample after another: for a sample those of hour 0 by component, then those of
 /// hour 1, and so on. A draw depends on the seed, the sample, the hour and the component alone. No
@@ -71,17 +72,20 @@ impl SampleStream {
         self.words.next_word()
     }
 
-    /// The next draws, at most an hour's, in order: as many as `words` has room for. Each is the one
-    /// that `next_draw` would give. An hour's draws cost less this way than one by one.
+    /// The next draws, in order: as many as `words` has room for. Each is the one that `next_draw` would give.
+    /// Many draws at once, as those of some hours, cost far less this way than one by one.
     pub fn next_draws(&mut self, words: &mut [u32])
-        requires { length words.old ≤ self.old.components }
         ensures words { (k : ℕ) → k < length words.old
             → slice_index words.new k ≡ next_of (behind k self.old) }
         ensures range { (k : ℕ) → k < length words.old → slice_index words.new k < 2 ^ 32 }
         ensures next { self.new ≡ behind (length words.old) self.old }
     {
+        // The generator is taken out while the loop runs: behind a reference its place would be stored and
+        // read again for each word.
+        let mut taken = mem::replace(&mut self.words, ChaCha8Rng::from_seed([0; 32]));
         for word in words.iter_mut() {
-            *word = self.words.next_word();
+            *word = taken.next_word();
         }
+        self.words = taken;
     }
 }

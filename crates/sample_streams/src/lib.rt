@@ -3,7 +3,9 @@
 #![tactic(auto)]
 
 mod draw;
+mod hour_draws;
 #[cfg(test)]
 mod tests;
 
 pub use draw::SampleStream;
+pub use hour_draws::HourDraws;

@@ -1,4 +1,5 @@
-use crate::SampleStream;
+use crate::{HourDraws, SampleStream};
+use std::test::Fail;
 
 // A value that may move between threads, and that they may share.
 fn is_shared<T: Send + Sync>(_value: &T) {}
@@ -34,7 +35,7 @@ fn draws_are_the_words_of_an_independent_chacha(rt: HostRuntime) {
 }
 
 #[test]
-fn an_hour_at_once_has_the_words_of_its_draws(rt: HostRuntime) {
+fn draws_at_once_are_those_one_by_one(rt: HostRuntime) {
     let mut words = [0; 3];
     let mut draws = SampleStream::new(258, 3);
     draws.next_draws(&mut words);
@@ -43,4 +44,37 @@ fn an_hour_at_once_has_the_words_of_its_draws(rt: HostRuntime) {
     draws.start(7);
     draws.next_draws(&mut words);
     assert_eq!(rt; words[0], 1_337_923_582);
+}
+
+#[test]
+fn hours_have_the_words_of_an_independent_chacha(rt: HostRuntime) -> Result<(), Fail> {
+    // Seed, components, sample, hour, component, the word. 3 components are drawn for 8 hours at once, 2,000
+    // for one.
+    for (seed, components, sample, hour, component, word) in [
+        (258, 3, 0, 0u16, 0, 231_641_764),
+        (258, 3, 0, 0, 2, 1_326_378_658),
+        (258, 3, 7, 5, 1, 1_252_293_431),
+        (258, 3, 7, 7, 2, 1_898_295_353),
+        (258, 3, 7, 8, 0, 1_928_838_787),
+        (258, 3, 7, 9, 2, 1_283_560_691),
+        (1, 2_000, 0, 1, 0, 2_934_474_361),
+        (1, 2_000, 0, 2, 1_999, 1_850_980_047),
+        (u64::MAX, 96, 999_999, 1, 3, 1_217_679_161),
+    ] {
+        let mut draws = HourDraws::new(rt.alloc(), seed, components)?;
+        is_shared(&draws);
+        draws.step();
+        draws.start(sample);
+        'passed: for _ in 0..u32::from(hour) {
+            draws.step();
+        }
+        let words = draws.words();
+        assert!(rt; component < words.len());
+        assert_eq!(rt;
+            words[component],
+            word,
+            "seed {seed} sample {sample} hour {hour}"
+        );
+    }
+    Ok(())
 }

@@ -1,4 +1,4 @@
-use Rattle.std.proofs.Common.{arith, ap, ◌∙◌}
+use Rattle.std.proofs.Common.{ap, ◌∙◌}
 use Rattle.outage_chronology.specs.Masks.{bit_of}
 use Rattle.outage_chronology.proofs.MaskSteps.{none-more}
 use Rattle.outage_chronology.proofs.masks.any_below.Goals as goal

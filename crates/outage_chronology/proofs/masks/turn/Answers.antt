@@ -1,8 +1,8 @@
-use Rattle.std.proofs.Common.{arith, ◌≡◌, ◌++◌, ◌∷◌, [], ◌+◌, length, get_or, ap, sym, ◌∙◌, subst, List, ℕ}
+use Rattle.std.proofs.Common.{arith, ◌≡◌, ◌++◌, ◌∷◌, [], length, get_or, ap, sym, ◌∙◌}
 use Rattle.std.specs.Prelude.{slice_set, vec_capacity}
 use Rattle.std.specs.Int.{w32, bit_not}
 use Rattle.outage_chronology.specs.Masks.{is_below}
-use Rattle.outage_chronology.proofs.MaskSteps.{Given, HaveTurned, turned-stays, turned-changes, turns-by}
+use Rattle.outage_chronology.proofs.MaskSteps.{Given, turned-stays, turned-changes, turns-by}
 use Rattle.outage_chronology.proofs.masks.turn.Goals as goal
 use Rattle.outage_chronology.proofs.masks.turn.Goals.{then-turns, else-turns}
 

@@ -1,4 +1,4 @@
-use Rattle.std.proofs.Common.{◌≡◌, length}
+use Rattle.std.proofs.Common.{◌≡◌}
 use Rattle.std.specs.Prelude.{vec_capacity}
 use Rattle.outage_chronology.proofs.MaskSteps.{HaveTurned}
 use Rattle.outage_chronology.proofs.masks.turn.Given as goal
