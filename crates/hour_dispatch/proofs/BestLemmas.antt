@@ -1,12 +1,14 @@
 use Rattle.std.proofs.Common.{◌≡◌, ℕ, ◌+◌, ◌-◌, ◌<◌, ◌^◌, ◌==◌, inl, inr, true, false, List, length, get_or, ap, sym, ◌∙◌, subst, arith}
 use Rattle.std.proofs.lemmas.Bool.{cases_lt}
 use Rattle.std.proofs.lemmas.List.Elements.{All-from_get_or}
-use Rattle.zone_network.specs.Network.{NetworkParts, inflow, outflow, zone_of_device, link_count, device_count, from_zone, to_zone, forward_of, backward_of}
+use Rattle.zone_network.specs.Network.{NetworkParts, IsNetwork, inflow, outflow, zone_of_device, link_count, device_count, from_zone, to_zone, forward_of, backward_of}
 use Rattle.zone_network.proofs.SumLemmas.{sum_where-same}
 use Rattle.transfer_flow.specs.Flow.{FlowParts, flow_at}
 use Rattle.sample_totals.specs.declared.outcomes.HourOutcome.{HourOutcome}
 use Rattle.cut_certificate.specs.declared.chains.Chain.{Chain}
-use Rattle.cut_certificate.specs.Chain.{Fit, IsFeasibleBy, IsProvedBy, ProvesUnserved, ProvesDischarge, served_but, served_in, unserved_in, discharge_in, flow_in}
+use Rattle.cut_certificate.proofs.BestLemmas.{chain_is_best_outcome}
+use Rattle.cut_certificate.proofs.UniqueLemmas.{only_best}
+use Rattle.cut_certificate.specs.Chain.{Fit, IsAccepted, IsFeasibleBy, IsOnlyBestOutcome, IsProvedBy, ProvesUnserved, ProvesDischarge, served_but, served_in, unserved_in, discharge_in, flow_in}
 use Rattle.hour_dispatch.specs.Stages.{IsServed, IsSpared, IsCharged, IsShown, Keeps, charged_before}
 use Rattle.hour_dispatch.proofs.OrderLemmas.{served-all}
 use Rattle.hour_dispatch.proofs.ChargeLemmas.{charged-early}
@@ -157,3 +159,8 @@ dispatched n f1 f2 f3 o1 o2 o3 chain sets1 sets2 sets3 energy served stays spare
           subst (λ (xs : List ℕ). IsCharged n f3 (served_in n o3) (discharge_in o3) o3.charge xs (device_count n.shape)) (sym sets) charged;
       shown = shown;
     }
+
+-- an outcome whose chain is accepted is the only best
+pub accepted-best : (n : NetworkParts) (outcome : HourOutcome) (chain : Chain) → IsNetwork n → IsAccepted n outcome chain → IsOnlyBestOutcome n outcome
+accepted-best n outcome chain valid accepted =
+    only_best n outcome (chain_is_best_outcome n outcome chain valid.shape accepted.0 accepted.1)

@@ -125,7 +125,7 @@ caps-most n f k z valid h below among =
     omega (arith, h.spares z among, valid.shape.devices)
 
 -- where nothing flows nothing comes in and nothing goes out
-still-in : (s : ShapeParts) (flow : ℕ → ℤ) (z : ℕ) → ((l : ℕ) → flow l ≡ pos 0) → inflow s flow z ≡ 0
+pub still-in : (s : ShapeParts) (flow : ℕ → ℤ) (z : ℕ) → ((l : ℕ) → flow l ≡ pos 0) → inflow s flow z ≡ 0
 still-in s flow z none =
     omega (
       arith,
@@ -133,7 +133,7 @@ still-in s flow z none =
       sum_where-none (λ l. from_zone s l == z) (λ l. backward_of (flow l)) (link_count s) (λ l below at. ap backward_of (none l)),
     )
 
-still-out : (s : ShapeParts) (flow : ℕ → ℤ) (z : ℕ) → ((l : ℕ) → flow l ≡ pos 0) → outflow s flow z ≡ 0
+pub still-out : (s : ShapeParts) (flow : ℕ → ℤ) (z : ℕ) → ((l : ℕ) → flow l ≡ pos 0) → outflow s flow z ≡ 0
 still-out s flow z none =
     omega (
       arith,

@@ -334,6 +334,39 @@ fn the_best_of_small_networks(rt: HostRuntime) -> Result<(), Fail> {
             charge: &[5, 15],
             cut: 0b00,
         },
+        // Each zone has enough for its load and its storage.
+        Case {
+            supply: &[60, 50],
+            load: &[40, 20],
+            links: &[(0, 1, 10, 10)],
+            devices: &[(1, 8, 25), (0, 12, 15)],
+            unserved: &[0, 0],
+            discharge: &[0, 0],
+            charge: &[25, 15],
+            cut: 0b00,
+        },
+        // Each has just enough.
+        Case {
+            supply: &[55, 45],
+            load: &[40, 20],
+            links: &[(0, 1, 10, 10)],
+            devices: &[(1, 8, 25), (0, 12, 15)],
+            unserved: &[0, 0],
+            discharge: &[0, 0],
+            charge: &[25, 15],
+            cut: 0b00,
+        },
+        // One lacks 1 MW for its storage, which is the first and so takes it from the other's.
+        Case {
+            supply: &[55, 44],
+            load: &[40, 20],
+            links: &[(0, 1, 10, 10)],
+            devices: &[(1, 8, 25), (0, 12, 15)],
+            unserved: &[0, 0],
+            discharge: &[0, 0],
+            charge: &[25, 14],
+            cut: 0b00,
+        },
         // Nothing at all.
         Case {
             supply: &[0],
