@@ -12,7 +12,11 @@ use campaign_core::{Job, Share, Work};
 use ra_base::{OutOfMemory, Pause};
 use std::alloc::Global;
 use std::sync::Wait;
-use std::thread::yield_now;
+use std::thread::Parker;
+use std::time::Duration;
+
+/// How many milliseconds a worker sleeps before it claims again where a claim was idle.
+const IDLE_MILLIS: u64 = 1;
 
 /// How a worker ended: by what its last claim was answered, or without memory.
 #[derive(Clone, Copy, Debug, PartialEq, Eq)]
@@ -44,7 +48,8 @@ pub struct Worked<W: Work> {
 }
 
 /// Claims shares, runs their samples and deposits what they came to, until a claim gives none. Where a claim
-/// is idle and `wait_idle` is true, it claims again. It may wait for the pass that has the book.
+/// is idle and `wait_idle` is true, it sleeps for a moment and claims again. It may wait for the pass that has
+/// the book.
 pub fn work<R: Wait, W: Work, J: Job<W>, P: Pause>(
     rt: &R,
     alloc: Global,
@@ -84,6 +89,8 @@ pub fn work_on<R: Wait, W: Work, J: Job<W>, P: Pause>(
     ensures idle { wait_idle ≡ true → result ≢ WorkEnd.Idle }
     ensures job { (work : W) → (J.serves job.old work ↔ J.serves job.new work) }
 {
+    // Nobody wakes it: it sleeps for its time, so that a worker without work costs next to nothing.
+    let sleeper = Parker::new();
     for _ in rt.forever() {
         match turn(rt, alloc, campaign, pass, job, pause) {
             None => {}
@@ -91,7 +98,7 @@ pub fn work_on<R: Wait, W: Work, J: Job<W>, P: Pause>(
                 if end != WorkEnd::Idle || !wait_idle {
                     return end;
                 }
-                yield_now();
+                sleeper.park_timeout(rt, Duration::from_millis(IDLE_MILLIS));
             }
         }
     }
