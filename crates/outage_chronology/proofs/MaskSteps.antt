@@ -1,5 +1,5 @@
 -- How masks go on, step by step.
-use Rattle.std.proofs.Common.{◌≡◌, ℕ, ◌+◌, ◌<◌, ◌≤◌, inl, inr, Bool, true, false, List, [], ◌∷◌, ◌++◌, length, get_or, filter, bit_or, refl, ap, sym, ◌∙◌, arith}
+use Rattle.std.proofs.Common.{◌≡◌, ℕ, zero, suc, add-one, ◌+◌, ◌<◌, ◌≤◌, inl, inr, Bool, true, false, List, [], ◌∷◌, ◌++◌, length, get_or, filter, bit_or, refl, ap, sym, ◌∙◌, subst, arith}
 use Rattle.std.specs.Prelude.{slice_set}
 use Rattle.std.specs.List.{range_with_len}
 use Rattle.std.proofs.lemmas.List.{get_or-set_same, get_or-set_other, length-append}
@@ -119,6 +119,26 @@ turned-stays g old_thresholds masks thresholds changed at stays is_mask was so_f
       list = so_far.list ∙ sym (passing_same (turns_at g) at stays);
       few = omega (arith, so_far.few);
     }
+
+-- nor do the masks of a lot of which none turns
+pub turned-lot : (g : Given) (old_thresholds masks thresholds changed : List ℕ) (from to : ℕ)
+    → from ≤ to
+    → ((k : ℕ) → from ≤ k → k < to → turns_at g k ≡ false)
+    → ((k : ℕ) → k < to → get_or g.before k 0 ≡ up_mask (says_up (get_or g.before k 0)))
+    → AreOfStates g.before g.fails g.repairs old_thresholds to
+    → HaveTurned g old_thresholds masks thresholds changed from
+    → HaveTurned g old_thresholds masks thresholds changed to
+turned-lot g old_thresholds masks thresholds changed from zero most stay are_masks was so_far =
+    let none : from ≡ 0 = omega arith in
+    subst (λ (m : ℕ). HaveTurned g old_thresholds masks thresholds changed m) none so_far
+turned-lot g old_thresholds masks thresholds changed from (suc to) most stay are_masks was so_far =
+    elim (cases_eq from (suc to)) [
+      | inl here ↦ subst (λ (m : ℕ). HaveTurned g old_thresholds masks thresholds changed m) here so_far
+      | inr other ↦
+          subst (λ (m : ℕ). HaveTurned g old_thresholds masks thresholds changed m) (add-one to)
+          (turned-stays g old_thresholds masks thresholds changed to (stay to (omega arith) (omega arith)) (are_masks to (omega arith)) (was to (omega arith))
+          (turned-lot g old_thresholds masks thresholds changed from to (omega arith) (λ k past below. stay k past (omega arith)) (λ k below. are_masks k (omega arith)) (λ k below. was k (omega arith)) so_far))
+    ]
 
 pub turned-changes : (g : Given) (old_thresholds masks thresholds changed : List ℕ) (at threshold : ℕ)
     → at < length masks

@@ -71,47 +71,12 @@ pub(crate) fn set_all_up(masks: &mut [u32])
     masks.fill(UP);
 }
 
-/// Changes the state of each component whose word is below its threshold, and lists their places, ascending.
-fn turn(
-    masks: &mut [u32],
-    thresholds: &mut [u32],
-    words: &[u32],
-    fails: &[u32],
-    is_repaired: &[u32],
-    changed: &mut Vec<u32>,
-)
-    requires words { length words.now ≡ length masks.old }
-    requires fails { length fails.now ≡ length masks.old }
-    requires repairs { length is_repaired.now ≡ length masks.old }
-    requires sizes { length thresholds.old ≡ length masks.old }
-    requires room { length masks.old ≤ vec_capacity changed.old }
-    requires none { changed.old.items ≡ [] }
-    requires few { length masks.old ≤ 2688 }
-    requires masks { (k : ℕ) → k < length masks.old → IsMask (slice_index masks.old k) }
-    requires thresholds { AreOfStates masks.old fails.now is_repaired.now thresholds.old (length masks.old) }
-    ensures masks { (k : ℕ) → k < length masks.old → slice_index masks.new k ≡ up_mask
-        (next_state (says_up (slice_index masks.old k)) (slice_index words.now k)
-        (slice_index fails.now k) (slice_index is_repaired.now k)) }
-    ensures changed { changed.new.items ≡ filter (λ k. turns
-        (says_up (slice_index masks.old k)) (slice_index words.now k)
-        (slice_index fails.now k) (slice_index is_repaired.now k)) (range_with_len 0 (length masks.old)) }
-    ensures thresholds { AreOfStates masks.new fails.now is_repaired.now thresholds.new (length masks.old) }
-    ensures room { vec_capacity changed.new ≡ vec_capacity changed.old }
-{
-    for at in 0..masks.len() {
-        let turns = is_below(words[at], thresholds[at]);
-        if turns {
-            let mask = !masks[at];
-            masks[at] = mask;
-            thresholds[at] = threshold_of(mask, fails[at], is_repaired[at]);
-            changed.push_reserved(at as u32);
-        }
-    }
-}
+/// So many components are looked at before any of them is changed.
+const LOT: usize = 32;
 
 /// Goes on to the next masks, by the words and the thresholds of failure and repair, and lists the places
-/// of the masks that change, ascending. For each component the threshold of its state is kept, so that an
-/// hour in which none changes costs a comparison a component.
+/// of the masks that change, ascending. For each component the threshold of its state is kept, so that a lot
+/// in which none changes, as most are, costs a comparison a component.
 pub(crate) fn go_on(
     masks: &mut [u32],
     thresholds: &mut [u32],
@@ -138,7 +103,19 @@ pub(crate) fn go_on(
     ensures room { vec_capacity changed.new ≡ vec_capacity changed.old }
 {
     changed.clear();
-    if any_below(words, thresholds) {
-        turn(masks, thresholds, words, fails, is_repaired, changed);
+    let mut from = 0;
+    while from < masks.len() {
+        let to = masks.len().min(from + LOT);
+        if any_below(&words[from..to], &thresholds[from..to]) {
+            for at in from..to {
+                if is_below(words[at], thresholds[at]) {
+                    let mask = !masks[at];
+                    masks[at] = mask;
+                    thresholds[at] = threshold_of(mask, fails[at], is_repaired[at]);
+                    changed.push_reserved(at as u32);
+                }
+            }
+        }
+        from = to;
     }
 }

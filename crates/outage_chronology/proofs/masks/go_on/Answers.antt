@@ -1,10 +1,76 @@
-use Rattle.std.proofs.Common.{ℕ, length, get_or, arith, sym, ap, ◌∙◌}
-use Rattle.outage_chronology.specs.Masks.{says_up, turns, is_below}
-use Rattle.outage_chronology.proofs.Passing.{passing_none}
+use Rattle.std.proofs.Common.{arith, false, ◌≡◌, ◌≤◌, ◌<◌, ◌++◌, ◌∷◌, [], ◌+◌, ◌-◌, length, take, drop, get_or, get_or-take, get_or-drop, ap, sym, ◌∙◌, List, ℕ}
+use Rattle.std.proofs.lemmas.List.{length-take-le, length-drop}
+use Rattle.std.specs.Prelude.{slice_set, vec_capacity}
+use Rattle.std.specs.Int.{w32, bit_not}
+use Rattle.outage_chronology.specs.Masks.{is_below}
+use Rattle.outage_chronology.proofs.MaskSteps.{Given, turned-stays, turned-lot, turned-changes, turns-by, turns_at}
 use Rattle.outage_chronology.proofs.masks.go_on.Goals as goal
+use Rattle.outage_chronology.proofs.masks.go_on.Goals.{then-is_below, else-is_below}
 
-pub returns-else-any_below-clause-changed : goal.returns-else-any_below-clause-changed
-returns-else-any_below-clause-changed c =
-    c.clear.ensures.items
-    ∙ sym (passing_none (λ (k : ℕ). turns (says_up (get_or c.args.masks.now k 0)) (get_or c.args.words.now k 0) (get_or c.args.fails.now k 0) (get_or c.args.is_repaired.now k 0)) (length c.args.masks.now)
-    (λ k below. ap (λ (t : ℕ). is_below (get_or c.args.words.now k 0) t) (sym (c.requires.thresholds k below)) ∙ c.any_below.ensures.none c.if-any_below.false k (omega arith)))
+pub loop-at-preserved : goal.loop-at-preserved
+loop-at-preserved c =
+    let at = c.loop-at.at in
+    let g : Given = record { words = c.args.words.now; fails = c.args.fails.now; repairs = c.args.is_repaired.now; before = c.args.masks.now } in
+    let old = c.args.thresholds.now in
+    let far = c.loop-at.invariant.far in
+    let is_mask = c.requires.masks at (omega arith) in
+    let was = c.requires.thresholds at (omega arith) in
+    let by = c.is_below.ensures ∙ ap (λ t. is_below (get_or g.words at 0) t) (far.thresholds_rest at (omega arith)) ∙ turns-by g old at (length g.before) (omega arith) c.requires.thresholds in
+    elim c.if-is_below.branch [
+      | then-is_below w ↦
+          let m : c.if-is_below.masks ≡ slice_set c.loop-at.masks at (bit_not w32 (get_or c.loop-at.masks at 0)) = cc in
+          let t : c.if-is_below.thresholds ≡ slice_set c.loop-at.thresholds at w.threshold_of.result = cc in
+          let l : c.if-is_below.changed.items ≡ c.loop-at.changed.items ++ at ∷ [] = cc in
+          let s : vec_capacity c.if-is_below.changed ≡ vec_capacity c.args.changed.now = cc in
+          record {
+            far =
+                rw (m, t, l)
+                (turned-changes g old c.loop-at.masks c.loop-at.thresholds c.loop-at.changed.items at w.threshold_of.result (omega arith) (omega arith) (sym by ∙ w.if-is_below.true) is_mask w.threshold_of.ensures far);
+            masks_stay = omega arith;
+            thresholds_stay = omega arith;
+            space = s;
+          }
+      | else-is_below w ↦
+          let m : c.if-is_below.masks ≡ c.loop-at.masks = cc in
+          let t : c.if-is_below.thresholds ≡ c.loop-at.thresholds = cc in
+          let l : c.if-is_below.changed.items ≡ c.loop-at.changed.items = cc in
+          let s : vec_capacity c.if-is_below.changed ≡ vec_capacity c.args.changed.now = cc in
+          record {
+            far = rw (m, t, l) (turned-stays g old c.loop-at.masks c.loop-at.thresholds c.loop-at.changed.items at (sym by ∙ w.if-is_below.false) is_mask was far);
+            masks_stay = omega arith;
+            thresholds_stay = omega arith;
+            space = s;
+          }
+    ]
+
+-- a number of a slice is one of the list
+of-slice : (xs : List ℕ) (from to k : ℕ) → from ≤ k → k < to → get_or (take (to - from) (drop from xs)) (k - from) 0 ≡ get_or xs k 0
+of-slice xs from to k past below =
+    let at : from + (k - from) ≡ k = omega arith in
+    get_or-take {A = ℕ} (to - from) (drop from xs) (k - from) 0 (omega arith) ∙ get_or-drop {A = ℕ} from xs (k - from) 0 ∙ ap (λ i. get_or xs i 0) at
+
+pub loop-from-preserved : goal.loop-from-preserved
+loop-from-preserved c =
+    let from = c.loop-from.from in
+    let to = c.min-to.result in
+    let g : Given = record { words = c.args.words.now; fails = c.args.fails.now; repairs = c.args.is_repaired.now; before = c.args.masks.now } in
+    let old = c.args.thresholds.now in
+    let far = c.loop-from.invariant.far in
+    let most : to ≤ length g.before = omega (arith, c.min-to.ensures) in
+    let on : from ≤ to = omega (arith, c.min-to.ensures) in
+    let size : length (take (to - from) (drop from g.words)) ≡ to - from =
+    length-take-le (to - from) (drop from g.words) (omega (arith, most, length-drop from g.words)) in
+    let stay : (k : ℕ) → from ≤ k → k < to → turns_at g k ≡ false =
+    λ k past below.
+    sym (turns-by g old k (length g.before) (omega (arith, most)) c.requires.thresholds)
+    ∙ ap (λ (t : ℕ). is_below (get_or g.words k 0) t) (sym (far.thresholds_rest k past))
+    ∙ ap (λ (t : ℕ). is_below (get_or g.words k 0) t) (sym (of-slice c.loop-from.thresholds from to k past below))
+    ∙ ap (λ (w : ℕ). is_below w (get_or (take (to - from) (drop from c.loop-from.thresholds)) (k - from) 0)) (sym (of-slice g.words from to k past below))
+    ∙ c.any_below.ensures.none c.if-any_below.false (k - from) (omega (arith, size)) in
+    record {
+      within = most;
+      far = turned-lot g old c.loop-from.masks c.loop-from.thresholds c.loop-from.changed.items from to on stay (λ k below. c.requires.masks k (omega (arith, most))) (λ k below. c.requires.thresholds k (omega (arith, most))) far;
+      masks_stay = c.loop-from.invariant.masks_stay;
+      thresholds_stay = c.loop-from.invariant.thresholds_stay;
+      space = c.loop-from.invariant.space;
+    }
