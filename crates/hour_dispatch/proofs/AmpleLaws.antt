@@ -28,6 +28,23 @@ pub record AreCovered (n : NetworkParts) (needs : List ℕ) (zones devices : ℕ
   pub each : (z : ℕ) → z < zones → get_or needs z 0 ≡ load_at n z + caps_before n devices z
   pub covered : (z : ℕ) → z < zones → get_or needs z 0 ≤ supply_at n z
 
+-- a list with one number set
+record IsPut (old new : List ℕ) (at value : ℕ) : Type 0 where
+  size : length new ≡ length old
+  here : (i : ℕ) → i ≡ at → get_or new i 0 ≡ value
+  there : (i : ℕ) → i ≢ at → get_or new i 0 ≡ get_or old i 0
+
+put-at : (old new : List ℕ) (at value : ℕ) → at < length old → new ≡ slice_set old at value → IsPut old new at value
+put-at old new at value below set =
+    let read : (i : ℕ) → get_or new i 0 ≡ get_or (slice_set old at value) i 0 =
+    λ i. ap (λ (xs : List ℕ). get_or xs i 0) set in
+    record {
+      size = ap (λ (xs : List ℕ). length xs) set ∙ length-set old at value;
+      here = λ i e.
+          read i ∙ ap (λ (k : ℕ). get_or (slice_set old at value) k 0) e ∙ get_or-set_same old at value 0 below;
+      there = λ i other. read i ∙ get_or-set_other old at i value 0 other;
+    }
+
 pub covered-zone : (n : NetworkParts) (needs needs' : List ℕ) (zone load : ℕ)
     → AreCovered n needs zone 0
     → zone < n.shape.zones
@@ -36,32 +53,27 @@ pub covered-zone : (n : NetworkParts) (needs needs' : List ℕ) (zone load : ℕ
     → needs' ≡ slice_set needs zone load
     → AreCovered n needs' (zone + 1) 0
 covered-zone n needs needs' zone load before below is covers set =
-    let among : zone < length needs = omega (arith, before.size) in
-    let read : (z : ℕ) → get_or needs' z 0 ≡ get_or (slice_set needs zone load) z 0 = λ z. ap (λ (xs : List ℕ). get_or xs z 0) set in
-    let here : (z : ℕ) → z ≡ zone → get_or needs' z 0 ≡ load =
-    λ z e. read z ∙ ap (λ (w : ℕ). get_or (slice_set needs zone load) w 0) e ∙ get_or-set_same needs zone load 0 among in
-    let there : (z : ℕ) → z ≢ zone → get_or needs' z 0 ≡ get_or needs z 0 =
-    λ z other. read z ∙ get_or-set_other needs zone z load 0 other in
+    let put : IsPut needs needs' zone load = put-at needs needs' zone load (omega (arith, before.size)) set in
     record {
-      size = ap (λ (xs : List ℕ). length xs) set ∙ length-set needs zone load ∙ before.size;
+      size = put.size ∙ before.size;
       each =
           λ z less.
           elim (cases_eq z zone) [
             | inl e ↦
                 omega (
                   arith,
-                  here z e,
+                  put.here z e,
                   is,
                   ap (load_at n) e,
                   sum_where-zero (λ k. zone_of_device n.shape k == z) (charge_cap_at n),
                 )
-            | inr other ↦ there z other ∙ before.each z (omega arith)
+            | inr other ↦ put.there z other ∙ before.each z (omega arith)
           ];
       covered =
           λ z less.
           elim (cases_eq z zone) [
-            | inl e ↦ omega (arith, here z e, covers, ap (supply_at n) e)
-            | inr other ↦ omega (arith, there z other, before.covered z (omega arith))
+            | inl e ↦ omega (arith, put.here z e, covers, ap (supply_at n) e)
+            | inr other ↦ omega (arith, put.there z other, before.covered z (omega arith))
           ];
     }
 
@@ -74,49 +86,40 @@ pub covered-device : (n : NetworkParts) (needs needs' : List ℕ) (k zone need :
     → needs' ≡ slice_set needs zone need
     → AreCovered n needs' n.shape.zones (k + 1)
 covered-device n needs needs' k zone need before below at is covers set =
-    let among : zone < length needs = omega (arith, before.size) in
-    let read : (z : ℕ) → get_or needs' z 0 ≡ get_or (slice_set needs zone need) z 0 = λ z. ap (λ (xs : List ℕ). get_or xs z 0) set in
-    let here : (z : ℕ) → z ≡ zone → get_or needs' z 0 ≡ need =
-    λ z e. read z ∙ ap (λ (w : ℕ). get_or (slice_set needs zone need) w 0) e ∙ get_or-set_same needs zone need 0 among in
-    let there : (z : ℕ) → z ≢ zone → get_or needs' z 0 ≡ get_or needs z 0 =
-    λ z other. read z ∙ get_or-set_other needs zone z need 0 other in
+    let put : IsPut needs needs' zone need = put-at needs needs' zone need (omega (arith, before.size)) set in
     record {
-      size = ap (λ (xs : List ℕ). length xs) set ∙ length-set needs zone need ∙ before.size;
+      size = put.size ∙ before.size;
       each =
           λ z less.
           elim (cases_eq z zone) [
             | inl e ↦
                 omega (
                   arith,
-                  here z e,
+                  put.here z e,
                   is,
                   before.each z less,
                   ap (λ (w : ℕ). get_or needs w 0) e,
                   sum_where-more (λ i. zone_of_device n.shape i == z) (charge_cap_at n) k,
-                  cond-true (zone_of_device n.shape k == z) (charge_cap_at n k) 0 (eq-eqb (zone_of_device n.shape k) z (sym at ∙ sym e)),
+                  cond-true (zone_of_device n.shape k == z) (charge_cap_at n k) 0
+                      (eq-eqb (zone_of_device n.shape k) z (sym at ∙ sym e)),
                 )
             | inr other ↦
                 omega (
                   arith,
-                  there z other,
+                  put.there z other,
                   before.each z less,
                   sum_where-more (λ i. zone_of_device n.shape i == z) (charge_cap_at n) k,
-                  cond-false (zone_of_device n.shape k == z) (charge_cap_at n k) 0 (ne_eqb (zone_of_device n.shape k) z (λ e. other (sym e ∙ sym at))),
+                  cond-false (zone_of_device n.shape k == z) (charge_cap_at n k) 0
+                      (ne_eqb (zone_of_device n.shape k) z (λ e. other (sym e ∙ sym at))),
                 )
           ];
       covered =
           λ z less.
           elim (cases_eq z zone) [
-            | inl e ↦ omega (arith, here z e, covers, ap (supply_at n) e)
-            | inr other ↦ omega (arith, there z other, before.covered z less)
+            | inl e ↦ omega (arith, put.here z e, covers, ap (supply_at n) e)
+            | inr other ↦ omega (arith, put.there z other, before.covered z less)
           ];
     }
-
-pub covered-ample : (n : NetworkParts) (needs : List ℕ) → AreCovered n needs n.shape.zones (device_count n.shape) → IsAmple n
-covered-ample n needs h = record { covered = λ z below. omega (arith, h.each z below, h.covered z below) }
-
-pub covered-needs : (n : NetworkParts) (needs : List ℕ) → AreCovered n needs n.shape.zones (device_count n.shape) → AreNeeds n needs
-covered-needs n needs h = record { size = h.size; each = h.each }
 
 -- a sum over fewer numbers is no more
 sum-before : (p : NumberSet) (f : ℕ → ℕ) (m n : ℕ) → m ≤ n → sum_where p f m ≤ sum_where p f n
@@ -142,7 +145,8 @@ short-device n needs k zone h among below at lacks ample =
       h.each zone below,
       sum-before (λ i. zone_of_device n.shape i == zone) (charge_cap_at n) (k + 1) (device_count n.shape) (omega arith),
       sum_where-more (λ i. zone_of_device n.shape i == zone) (charge_cap_at n) k,
-      cond-true (zone_of_device n.shape k == zone) (charge_cap_at n k) 0 (eq-eqb (zone_of_device n.shape k) zone (sym at)),
+      cond-true (zone_of_device n.shape k == zone) (charge_cap_at n k) 0
+          (eq-eqb (zone_of_device n.shape k) zone (sym at)),
     )
 
 zero-at : (count i : ℕ) → i < count → get_or (zeros count) i 0 ≡ 0
@@ -162,7 +166,7 @@ none-unserved n outcome =
 
 -- what an ample hour comes to and its chain, where each zone generates what it needs
 module _ (n : NetworkParts) (outcome : HourOutcome) (chain : Chain) where
-  pub ample-fits : AreSized n outcome chain → IsNetwork n → Fit n (ample_outcome n outcome) (ample_chain n chain)
+  ample-fits : AreSized n outcome chain → IsNetwork n → Fit n (ample_outcome n outcome) (ample_chain n chain)
   ample-fits sized valid =
       record {
         sizes =
@@ -181,7 +185,7 @@ module _ (n : NetworkParts) (outcome : HourOutcome) (chain : Chain) where
             omega (arith, zero-at (set_count n.shape) i (omega (arith, length-zeros (set_count n.shape))), pow_pos n.shape.zones));
       }
 
-  pub ample-feasible : IsAmple n → AreNeeds n chain.generation → IsFeasibleBy n (ample_outcome n outcome) (ample_chain n chain)
+  ample-feasible : IsAmple n → AreNeeds n chain.generation → IsFeasibleBy n (ample_outcome n outcome) (ample_chain n chain)
   ample-feasible ample needs =
       record {
         within = λ z below. omega (arith, zero-at n.shape.zones z below);
@@ -201,39 +205,42 @@ module _ (n : NetworkParts) (outcome : HourOutcome) (chain : Chain) where
                     zero-at n.shape.zones z below,
                     still-in n.shape (flow_in (ample_chain n chain)) z (no-flow n chain),
                     still-out n.shape (flow_in (ample_chain n chain)) z (no-flow n chain),
-                    sum_where-none (λ k. zone_of_device n.shape k == z) (λ k. get_or (zeros (device_count n.shape)) k 0) (device_count n.shape)
-                        (λ k less at. zero-at (device_count n.shape) k less),
+                    sum_where-none (λ k. zone_of_device n.shape k == z) (λ k. get_or (zeros (device_count n.shape)) k 0)
+                        (device_count n.shape) (λ k less at. zero-at (device_count n.shape) k less),
                   );
             };
       }
 
-  pub ample-proved : IsProvedBy n (ample_outcome n outcome) (ample_chain n chain)
+  ample-proved : IsProvedBy n (ample_outcome n outcome) (ample_chain n chain)
   ample-proved =
+      let empty : (i : ℕ) → i < set_count n.shape → get_or (zeros (set_count n.shape)) i 0 ≡ 0 =
+      zero-at (set_count n.shape) in
+      let devices : ℕ = device_count n.shape in
       record {
         unserved =
             λ z below.
             record {
               bound = λ none. zero-at n.shape.zones z below;
-              member = λ some. absurd (some (zero-at (set_count n.shape) z (omega arith)));
-              used = λ some. absurd (some (zero-at (set_count n.shape) z (omega arith)));
+              member = λ some. absurd (some (empty z (omega arith)));
+              used = λ some. absurd (some (empty z (omega arith)));
             };
         discharge =
             λ k below.
             record {
               bound = λ none. zero-at (device_count n.shape) k below;
-              member = λ some. absurd (some (zero-at (set_count n.shape) (n.shape.zones + k) (omega arith)));
-              used = λ some. absurd (some (zero-at (set_count n.shape) (n.shape.zones + k) (omega arith)));
+              member = λ some. absurd (some (empty (n.shape.zones + k) (omega arith)));
+              used = λ some. absurd (some (empty (n.shape.zones + k) (omega arith)));
             };
         charge =
             λ k below.
             record {
               bound = λ none. refl;
-              member = λ some. absurd (some (zero-at (set_count n.shape) (n.shape.zones + device_count n.shape + k) (omega arith)));
-              used = λ some. absurd (some (zero-at (set_count n.shape) (n.shape.zones + device_count n.shape + k) (omega arith)));
+              member = λ some. absurd (some (empty (n.shape.zones + devices + k) (omega arith)));
+              used = λ some. absurd (some (empty (n.shape.zones + devices + k) (omega arith)));
             };
       }
 
-  pub ample-cut : IsCut n (all_unserved n (ample_outcome n outcome)) 0
+  ample-cut : IsCut n (all_unserved n (ample_outcome n outcome)) 0
   ample-cut = served-cut n (all_unserved n (ample_outcome n outcome)) (none-unserved n outcome)
 
 -- what an hour's dispatch owes, but for what follows from it: that its outcome is the only best one and leaves the

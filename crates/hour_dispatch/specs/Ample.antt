@@ -34,4 +34,8 @@ ample_outcome n outcome =
 
 -- and its chain: nothing flows, and each component is at its bound
 abbrev pub ample_chain : NetworkParts → Chain → Chain
-ample_chain n chain = record chain { flows = replicate (link_count n.shape) (pos 0); sets = zeros (set_count n.shape) }
+ample_chain n chain =
+    record chain {
+      flows = replicate (link_count n.shape) (pos 0);
+      sets = zeros (set_count n.shape);
+    }
