@@ -1,5 +1,5 @@
 -- What is exact of a pool lies between the ends that are written for it.
-use Rattle.std.specs.Prelude.{ℕ, ◌*◌, ◌<◌, ◌≤◌, List, length, slice_index_or}
+use Rattle.std.specs.Prelude.{ℕ, ◌*◌, ◌^◌, ◌<◌, ◌≤◌, List, length, slice_index_or}
 use Rattle.fixed_interval.specs.Enclosure.{one}
 use Rattle.fixed_interval.specs.Rounding.{floor_div, ceil_div}
 use Rattle.load_model.specs.Need.{need_of, no_net_hour}
@@ -9,11 +9,14 @@ use Rattle.outage_table.specs.Grid.{grid, unserved_grid}
 use Rattle.analytic_index.specs.Pool.{Pool}
 use Rattle.analytic_index.specs.Index.{needs_of, lole_weight, eue_weight, lolp_end, lole_end, eue_end}
 
--- the fraction `part / whole` lies between two ends in units of 2^-60
+-- the fraction `part / whole` lies between two ends in units of 2^-60, and between these as they are printed, the
+-- low one rounded down and the high one rounded up to 12 places
 pub record LiesBetween (low high part whole : ℕ) : Type 0 where
   pub possible : 0 < whole
   pub below : low * whole ≤ part * one
   pub above : part * one ≤ high * whole
+  pub printed_below : floor_div (low * (10 ^ 12)) one * whole ≤ part * (10 ^ 12)
+  pub printed_above : part * (10 ^ 12) ≤ ceil_div (high * (10 ^ 12)) one * whole
 
 -- under a need: the probability that less is in service, and the expected MW that are unserved
 pub record IsNeedEnclosed (units : List PooledUnit) (need : ℕ) : Type 0 where
