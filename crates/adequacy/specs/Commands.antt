@@ -3,6 +3,7 @@ use Rattle.std.specs.Prelude.{◌≡◌, ◌++◌, Bool, true, false, None, List
 use Rattle.system_model.specs.System.{SystemParts}
 use Rattle.load_model.specs.Need.{net_hour_of, peak_of}
 use Rattle.analytic_index.specs.Pool.{pool_of}
+use Rattle.analytic_index.specs.Enclosed.{AreIndicesEnclosed, AreOutagesEnclosed}
 use Rattle.capacity_credit.specs.declared.brackets.Bracket.{Bracket}
 use Rattle.capacity_credit.specs.Bracket.{IsBracket, IsCertified}
 use Rattle.index_text.specs.CreditText.{bracket_text}
@@ -21,13 +22,14 @@ check_text system =
     let peak = peak_of (map net_hour_of system.hours) in
     check_line system peak.mw peak.hour
 
--- the bytes answer a request for a system, where recorders are seen so before; a credit's are the text of the one
--- bracket of the unit's worth, whose ends the exact indices certify, and a trial's are the line of a check and then
--- those of a study
+-- The bytes answer a request for a system, where recorders are seen so before. Those of a table and of the indices
+-- are the text of ends between which the exact values lie; a credit's are the text of the one bracket of the unit's
+-- worth, whose ends the exact indices certify, and a trial's are the line of a check and then those of a study.
 abbrev pub IsAnswer : Request → List Seen → SystemParts → List ℕ → Type 0
 IsAnswer Check seen system text = text ≡ check_text system
-IsAnswer Table seen system text = text ≡ table_text (pool_of system None).units
-IsAnswer Index seen system text = text ≡ index_text (pool_of system None)
+IsAnswer Table seen system text =
+    AreOutagesEnclosed (pool_of system None).units × (text ≡ table_text (pool_of system None).units)
+IsAnswer Index seen system text = AreIndicesEnclosed (pool_of system None) × (text ≡ index_text (pool_of system None))
 IsAnswer (Credit terms) seen system text =
     (bracket : Bracket) × IsBracket terms.kind terms.measure system terms.unit terms.most bracket
     × IsCertified terms.kind terms.measure system terms.unit bracket

@@ -1,10 +1,8 @@
 //! What each command answers: the bytes of its text for a system.
 ghost use Rattle.std.specs.Prelude.{◌≡◌, ◌<◌, ◌≤◌, [], IfOk, None, true, false};
 ghost use Rattle.ra_base.specs.declared.limits.TheConstants.{MOST_POOLED_MW};
-ghost use Rattle.analytic_index.specs.Pool.{IsNewUnit, pool_of};
+ghost use Rattle.analytic_index.specs.Pool.{IsNewUnit};
 ghost use Rattle.adequacy.specs.declared.words.request.Request.{Request};
-ghost use Rattle.index_text.specs.TableText.{table_text};
-ghost use Rattle.index_text.specs.IndexText.{index_text};
 ghost use Rattle.adequacy.specs.Commands.{IsAnswer, check_text, waits};
 ghost use Rattle.adequacy.specs.LineParts.{LineParts};
 ghost use Rattle.adequacy.specs.Requests.{IsRequestOf};
@@ -53,9 +51,9 @@ pub(crate) fn make_check_text(alloc: Global, system: &System) -> Result<Text, Ou
     Ok(text)
 }
 
-// The capacity outage table of all units.
+// The capacity outage table of all units, whose ends enclose the exact probabilities.
 fn make_table_text(alloc: Global, system: &System) -> Result<Text, OutOfMemory>
-    ensures { IfOk result (λ text. text ≡ table_text (pool_of system.now None).units) }
+    ensures { IfOk result (IsAnswer Request.Table [] system.now) }
 {
     let analysis = Analysis::new(alloc, system, None)?;
     let mut text = Text::new(alloc);
@@ -63,9 +61,9 @@ fn make_table_text(alloc: Global, system: &System) -> Result<Text, OutOfMemory>
     Ok(text)
 }
 
-// The indices of all units over all hours.
+// The indices of all units over all hours, whose ends enclose the exact ones.
 fn make_index_text(alloc: Global, system: &System) -> Result<Text, OutOfMemory>
-    ensures { IfOk result (λ text. text ≡ index_text (pool_of system.now None)) }
+    ensures { IfOk result (IsAnswer Request.Index [] system.now) }
 {
     let analysis = Analysis::new(alloc, system, None)?;
     let mut text = Text::new(alloc);

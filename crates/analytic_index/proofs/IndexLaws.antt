@@ -23,12 +23,12 @@ short units need =
     let same : total_capacity units + 0 + 1 - need ≡ total_capacity units + 1 - need = omega arith in
     short_weight-outage units 0 need ∙ ap (λ x. outage_weight units 0 x) same
 
-lolp-below : (units : List PooledUnit) (need : ℕ) → AreRated units
+pub lolp-below : (units : List PooledUnit) (need : ℕ) → AreRated units
     → lolp_end floor_div units need * all_weight units ≤ short_weight units 0 need * one
 lolp-below units need rated =
     rw (short units need) ((grid_ends units rated).below (total_capacity units + 1 - need))
 
-lolp-above : (units : List PooledUnit) (need : ℕ) → AreRated units
+pub lolp-above : (units : List PooledUnit) (need : ℕ) → AreRated units
     → short_weight units 0 need * one ≤ lolp_end ceil_div units need * all_weight units
 lolp-above units need rated =
     rw (short units need) ((grid_ends units rated).above (total_capacity units + 1 - need))

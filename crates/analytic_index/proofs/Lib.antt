@@ -3,3 +3,4 @@ pub mod PoolLaws
 pub mod NeedLaws
 pub mod UnservedPast
 pub mod IndexLaws
+pub mod Laws
