@@ -2,6 +2,8 @@
 #![tactic(auto)]
 
 mod binding_cut;
+mod hour_line;
+mod line_recorder;
 mod lines;
 mod plain;
 mod refusing_plain;

@@ -3,7 +3,8 @@ ghost use Rattle.ra_base.specs.Causes.{Counts};
 ghost use Rattle.sample_totals.specs.Recorders.{Seen, is_refused};
 ghost use Rattle.result_recorders.specs.Lines.{plain_line};
 
-use crate::plain::put_hour;
+use crate::hour_line::put_hour;
+use crate::plain::PlainLine;
 use ra_base::{OutOfMemory, Text};
 use sample_totals::{HourOutcome, Recorder, RecorderError};
 use std::alloc::Global;
@@ -58,7 +59,7 @@ impl Recorder for RefusingPlain {
             self.refusals = self.refusals.saturating_add(1);
             return Err(RecorderError::Refused);
         }
-        match put_hour(&mut self.text, outcome) {
+        match put_hour::<PlainLine>(&mut self.text, outcome) {
             Ok(()) => Ok(()),
             Err(OutOfMemory) => Err(RecorderError::OutOfMemory),
         }
