@@ -16,7 +16,7 @@ use std::thread::Parker;
 use std::time::Duration;
 
 /// How many milliseconds a worker sleeps before it claims again where a claim was idle.
-const IDLE_MILLIS: u64 = 1;
+const IDLE_MILLIS: u64 = 10;
 
 /// How a worker ended: by what its last claim was answered, or without memory.
 #[derive(Clone, Copy, Debug, PartialEq, Eq)]
