@@ -5,9 +5,10 @@ use Rattle.std.proofs.lemmas.Nat.{div-mul-add, mod-mul-add, mul-le}
 use Rattle.std.proofs.lemmas.List.{take-append-le, take_all}
 use Rattle.sample_streams.specs.Draw.{Draws, draw, next_of, behind}
 use Rattle.sample_streams.specs.HourDraws.{AreHeld}
+use Rattle.sample_streams.specs.declared.hour_draws.TheConstants.{HOURS}
 
 -- the places of an hour's draws are far below the end of a stream
-pub early : (first hours components : ℕ) → first < 2 ^ 32 → hours ≤ 8 → components < 2 ^ 32 → (first + hours) * components < 2 ^ 68
+pub early : (first hours components : ℕ) → first < 2 ^ 32 → hours ≤ 16 → components < 2 ^ 32 → (first + hours) * components < 2 ^ 68
 early first hours components a b c =
     let most : (first + hours) * components ≤ 2 ^ 33 * 2 ^ 32 = mul-le (first + hours) components (2 ^ 33) (2 ^ 32) (omega arith) (omega arith) in
     omega (arith, most)
@@ -37,33 +38,30 @@ place-behind place first hours components is small =
     ap (λ p. (p + hours * components) % 2 ^ 68) is ∙ mod-eq_of_lt (omega (arith, small)) ∙ (let e : first * components + hours * components ≡ (first + hours) * components = omega arith in e)
 
 -- the words that are drawn from the first hour's place on are held
-pub filled : (before after : Draws) (components hours first : ℕ) (words : List ℕ)
+pub filled : (before after : Draws) (components first : ℕ) (words : List ℕ)
     → before.components ≡ components
     → before.place ≡ first * components
-    → 0 < hours
-    → hours ≤ 8
     → first < 2 ^ 32
     → components < 2 ^ 32
-    → length words ≡ hours * components
+    → length words ≡ HOURS * components
     → ((k : ℕ) → k < length words → get_or words k 0 ≡ next_of (behind k before))
     → ((k : ℕ) → k < length words → get_or words k 0 < 2 ^ 32)
     → after ≡ behind (length words) before
-    → AreHeld after components words hours first 0
-filled before after components hours first words count place some few soon narrow size drawn small_words is =
-    let small : (first + hours) * components < 2 ^ 68 = early first hours components soon few narrow in
-    let behind_all : after ≡ record before { place = (first + hours) * components } =
-    is ∙ ap (λ n. behind n before) size ∙ ap (λ p. record before { place = p }) (place-behind before.place first hours components place small) in
+    → AreHeld after components words first 0
+filled before after components first words count place soon narrow size drawn small_words is =
+    let small : (first + HOURS) * components < 2 ^ 68 = early first HOURS components soon (omega arith) narrow in
+    let behind_all : after ≡ record before { place = (first + HOURS) * components } =
+    is ∙ ap (λ n. behind n before) size ∙ ap (λ p. record before { place = p }) (place-behind before.place first HOURS components place small) in
     record {
-      among = some;
-      few = few;
+      among = omega arith;
       count = ap (λ (d : Draws). d.components) behind_all ∙ count;
       place = ap (λ (d : Draws). d.place) behind_all;
       size = size;
       each = λ h k among below.
-          let within : (h + 1) * components ≤ hours * components = mul-le (h + 1) components hours components (omega arith) (omega arith) in
+          let within : (h + 1) * components ≤ HOURS * components = mul-le (h + 1) components HOURS components (omega arith) (omega arith) in
           drawn (h * components + k) (omega (arith, within, size))
           ∙ ap (λ n. next_of (behind (h * n + k) before)) (sym count)
-          ∙ draw-of before first hours h k (place ∙ ap (λ n. first * n) (sym count)) (rw count small) among (omega (arith, count, below))
+          ∙ draw-of before first HOURS h k (place ∙ ap (λ n. first * n) (sym count)) (rw count small) among (omega (arith, count, below))
           ∙ ap (λ n. draw n before.seed before.sample (first + h) k) count
           ∙ ap (λ (d : Draws). draw components d.seed d.sample (first + h) k) (sym behind_all);
       small = small_words;

@@ -1,1 +1,2 @@
 pub mod HourLaws
+pub mod WordLaws

@@ -1,3 +1,4 @@
 pub mod Draw
 pub mod HourDraws
+pub mod Words
 pub mod WorkedRows

@@ -1,6 +1,7 @@
 ghost use Rattle.std.specs.Prelude.{◌≡◌, ℕ, ◌+◌, ◌/◌, ◌%◌, ◌^◌, ◌<◌, length, slice_index};
 ghost use Rattle.sample_streams.specs.Draw.{draw, next_of, behind};
 
+use crate::words::next_words;
 use rand_chacha::ChaCha8Rng;
 use rand_core::SeedableRng;
 use rand_core::utils::NextWord;
@@ -80,12 +81,9 @@ impl SampleStream {
         ensures range { (k : ℕ) → k < length words.old → slice_index words.new k < 2 ^ 32 }
         ensures next { self.new ≡ behind (length words.old) self.old }
     {
-        // The generator is taken out while the loop runs: behind a reference its place would be stored and
-        // read again for each word.
+        // The generator is taken out while they are drawn: behind a reference its place would be stored for each.
         let mut taken = mem::replace(&mut self.words, ChaCha8Rng::from_seed([0; 32]));
-        for word in words.iter_mut() {
-            *word = taken.next_word();
-        }
+        next_words(&mut taken, words);
         self.words = taken;
     }
 }

@@ -12,10 +12,9 @@ use std::marker::Model;
 pub struct HourDraws {
     stream: SampleStream,
     components: u32,
-    // The draws of so many hours from the first on, one hour behind another. It stands at the hour that so
-    // many of them have passed before.
+    // The draws of the hours that are drawn at once, from the first on, one hour behind another. It stands at
+    // the hour that so many of them have passed before.
     words: Vec<u32>,
-    hours: u32,
     first: u32,
     passed: u32,
 }
@@ -33,13 +32,12 @@ impl Model for HourDraws {
       hour = h.first + h.passed;
     } };
 
-    ghost invariant = { λ h. AreHeld h.stream h.components h.words.items h.hours h.first h.passed };
+    ghost invariant = { λ h. AreHeld h.stream h.components h.words.items h.first h.passed };
 }
 
-/// The most hours whose draws are drawn at once, and the most such draws where one hour has fewer.
-const MOST_HOURS: u32 = 8;
-
-const MOST_WORDS: u32 = 1_024;
+/// The hours whose draws are drawn at once. Their words are whole blocks of the generator, however many
+/// components there are, so the next hours' begin with a block, as `next_draws` is fast for.
+const HOURS: u32 = 16;
 
 impl HourDraws {
     /// The draws under a seed, for so many components, at hour 0 of sample 0.
@@ -51,15 +49,13 @@ impl HourDraws {
           hour = 0;
         }) }
     {
-        let hours = hours_at_once(components);
-        let mut words = vec![in alloc; 0; hours as usize * components as usize]?;
+        let mut words = vec![in alloc; 0; HOURS as usize * components as usize]?;
         let mut stream = SampleStream::new(seed, components);
         stream.next_draws(&mut words);
         Ok(HourDraws {
             stream,
             components,
             words,
-            hours,
             first: 0,
             passed: 0,
         })
@@ -81,11 +77,11 @@ impl HourDraws {
         requires { self.old.hour + 1 < 2 ^ 32 }
         ensures { self.new ≡ record self.old { hour = self.old.hour + 1 } }
     {
-        if self.passed + 1 < self.hours {
+        if self.passed + 1 < HOURS {
             self.passed += 1;
         } else {
             self.stream.next_draws(&mut self.words);
-            self.first += self.hours;
+            self.first += HOURS;
             self.passed = 0;
         }
     }
@@ -101,16 +97,5 @@ impl HourDraws {
         let count = self.components as usize;
         let from = self.passed as usize * count;
         &self.words[from..from + count]
-    }
-}
-
-/// How many hours' draws are drawn at once.
-fn hours_at_once(components: u32) -> u32
-    ensures some { 0 < result }
-    ensures most { result ≤ MOST_HOURS }
-{
-    match MOST_WORDS.checked_div(components) {
-        Some(hours) => hours.clamp(1, MOST_HOURS),
-        None => 1,
     }
 }

@@ -6,6 +6,7 @@ mod draw;
 mod hour_draws;
 #[cfg(test)]
 mod tests;
+mod words;
 
 pub use draw::SampleStream;
 pub use hour_draws::HourDraws;

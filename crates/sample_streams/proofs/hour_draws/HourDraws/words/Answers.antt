@@ -9,6 +9,6 @@ returns-clause-range c = λ k below.
     let n = s.components in
     let kept = c.self.invariant in
     let among : k < n = omega (arith, below, ap (λ (d : DrawnHour). d.components) c.self.view_is) in
-    let within : (s.passed + 1) * n ≤ s.hours * n = mul-le (s.passed + 1) n s.hours n (omega (arith, kept.among)) (omega arith) in
+    let within : (s.passed + 1) * n ≤ 16 * n = mul-le (s.passed + 1) n 16 n (omega (arith, kept.among)) (omega arith) in
     let there = kept.small (s.passed * n + k) (omega (arith, within, among, kept.size)) in
     rw (get_or-take {A = ℕ} (s.passed * n + n - s.passed * n) _ k 0 (omega (arith, among)), get_or-drop {A = ℕ} (s.passed * n) c.deref.result.now k 0, c.deref.ensures.value) there
