@@ -1,4 +1,4 @@
-ghost use Rattle.std.specs.Prelude.{◌≡◌, ◌*◌, ◌^◌, ◌<◌, ◌≤◌, ◌++◌, OnOk, OnErr};
+ghost use Rattle.std.specs.Prelude.{◌≡◌, ◌+◌, ◌*◌, ◌^◌, ◌<◌, ◌≤◌, ◌++◌, OnOk, OnErr};
 ghost use Rattle.fixed_interval.specs.Enclosure.{one};
 ghost use Rattle.fixed_interval.specs.Rounding.{floor_div, ceil_div};
 ghost use Rattle.fixed_interval.specs.Places.{places_text, low_text, high_text};
@@ -11,7 +11,17 @@ use ra_base::{OutOfMemory, Text};
 const ONE: u128 = 1 << 60;
 
 /// 1, in units of 10^-12.
-const PLACES: u128 = 1_000_000_000_000;
+const PLACES: u64 = 1_000_000_000_000;
+
+/// A value with 12 places after the point.
+#[derive(Clone, Copy)]
+struct Decimal {
+    /// The whole part.
+    whole: u64,
+    /// What stands behind the point, in units of 10^-12.
+    behind: u64,
+    ghost below: { behind < 10 ^ 12 },
+}
 
 /// Writes the low end with 12 places after the point, rounded down.
 pub fn put_low(out: &mut Text, a: Enclosure) -> Result<(), OutOfMemory>
@@ -29,40 +39,45 @@ pub fn put_high(out: &mut Text, a: Enclosure) -> Result<(), OutOfMemory>
     put_places(out, rounded_up(a.high))
 }
 
-// An end in units of 10^-12, rounded down. The whole part goes by itself, since the product of an
-// end and 10^12 needs more than 128 bits.
-fn rounded_down(end: u128) -> u128
+// An end with 12 places, rounded down. The whole part goes by itself, since the product of an end and
+// 10^12 needs more than 128 bits.
+fn rounded_down(end: u128) -> Decimal
     requires { end ≤ 2 ^ 100 }
-    ensures value { result ≡ floor_div (end * (10 ^ 12)) one }
-    ensures bound { result < 2 ^ 90 }
+    ensures { result.whole * (10 ^ 12) + result.behind ≡ floor_div (end * (10 ^ 12)) one }
 {
-    let part = end % ONE * PLACES;
-    end / ONE * PLACES + part / ONE
+    let part = end % ONE * u128::from(PLACES);
+    Decimal {
+        whole: (end / ONE) as u64,
+        behind: (part / ONE) as u64,
+    }
 }
 
-// An end in units of 10^-12, rounded up.
-fn rounded_up(end: u128) -> u128
+// An end with 12 places, rounded up.
+fn rounded_up(end: u128) -> Decimal
     requires { end ≤ 2 ^ 100 }
-    ensures value { result ≡ ceil_div (end * (10 ^ 12)) one }
-    ensures bound { result < 2 ^ 90 }
+    ensures { result.whole * (10 ^ 12) + result.behind ≡ ceil_div (end * (10 ^ 12)) one }
 {
-    let part = end % ONE * PLACES;
-    end / ONE * PLACES + (part + (ONE - 1)) / ONE
+    let part = end % ONE * u128::from(PLACES);
+    let whole = (end / ONE) as u64;
+    let behind = ((part + (ONE - 1)) / ONE) as u64;
+    if behind < PLACES {
+        return Decimal { whole, behind };
+    }
+    Decimal {
+        whole: whole + 1,
+        behind: 0,
+    }
 }
 
-// Writes a value in units of 10^-12.
-fn put_places(out: &mut Text, value: u128) -> Result<(), OutOfMemory>
-    requires { value < 2 ^ 90 }
-    ensures ok { OnOk result (out.new ≡ out.old ++ places_text value) }
+// Writes a value with all its places.
+fn put_places(out: &mut Text, value: Decimal) -> Result<(), OutOfMemory>
+    ensures ok { OnOk result (out.new ≡ out.old ++ places_text (value.whole * (10 ^ 12) + value.behind)) }
     ensures err { OnErr result (out.new ≡ out.old) }
 {
     let mut digits = [b'0'; 33];
-    let mut rest = (value % PLACES) as u64;
-    for written in 0..12usize {
-        digits[32 - written] = b'0' + (rest % 10) as u8;
-        rest /= 10;
-    }
-    digits[20] = b'.';
-    let start = write_digits((value / PLACES) as u64, &mut digits, 20);
+    // A 1 before the places keeps their leading zeros, and then gives way to the point.
+    let point = write_digits(PLACES + value.behind, &mut digits, 33);
+    digits[point] = b'.';
+    let start = write_digits(value.whole, &mut digits, point);
     out.push(&digits[start..])
 }

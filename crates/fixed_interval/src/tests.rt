@@ -12,15 +12,35 @@ fn low_and_high(alloc: Global, a: Enclosure) -> Result<(Text, Text), OutOfMemory
     Ok((low, high))
 }
 
+// One in the last place is 2^60 / 10^12 = 1,152,921.5 units. An end that is 1,152,921 units below 2 lacks
+// less than that, so rounding it up carries into the whole part. One more unit below, and it lacks more.
 #[test]
 fn ends_have_twelve_places_rounded_outward(rt: HostRuntime) {
-    let cases: [(u128, u128, &str, &str); 7] = [
+    let cases: [(u128, u128, &str, &str); 10] = [
         (0, 0, "0.000000000000", "0.000000000000"),
         (ONE, ONE, "1.000000000000", "1.000000000000"),
         (ONE / 2, ONE / 2, "0.500000000000", "0.500000000000"),
         (ONE / 3, ONE / 3 + 1, "0.333333333333", "0.333333333334"),
         (1, 1, "0.000000000000", "0.000000000001"),
         (ONE - 1, ONE - 1, "0.999999999999", "1.000000000000"),
+        (
+            10 * ONE - 1,
+            10 * ONE - 1,
+            "9.999999999999",
+            "10.000000000000",
+        ),
+        (
+            2 * ONE - 1_152_921,
+            2 * ONE - 1_152_921,
+            "1.999999999999",
+            "2.000000000000",
+        ),
+        (
+            2 * ONE - 1_152_922,
+            2 * ONE - 1_152_922,
+            "1.999999999998",
+            "1.999999999999",
+        ),
         (
             1 << 100,
             1 << 100,
