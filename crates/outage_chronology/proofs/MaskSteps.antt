@@ -6,7 +6,7 @@ use Rattle.std.proofs.lemmas.List.{get_or-set_same, get_or-set_other, length-app
 use Rattle.std.proofs.lemmas.Nat.{le_or_l, le_or_r}
 use Rattle.std.specs.Int.{w32, bit_not}
 use Rattle.std.proofs.lemmas.Bool.{cases_eq}
-use Rattle.outage_chronology.specs.Masks.{up_mask, bit_of, says_up, is_below, threshold_of, AreOfStates, turns, turned}
+use Rattle.outage_chronology.specs.Masks.{up_mask, says_up, is_below, threshold_of, AreOfStates, turns, turned}
 use Rattle.outage_chronology.proofs.Passing.{passing_pushed, passing_same}
 
 pub says-mask : (up : Bool) → says_up (up_mask up) ≡ up
@@ -17,20 +17,16 @@ says-mask false = refl
 abbrev pub NoneBelow : List ℕ → List ℕ → ℕ → ℕ → Type 0
 NoneBelow words thresholds any count = any ≡ 0 → (k : ℕ) → k < count → is_below (get_or words k 0) (get_or thresholds k 0) ≡ false
 
-pub none-more : (words thresholds : List ℕ) (any at bit : ℕ)
-    → bit ≡ bit_of (is_below (get_or words at 0) (get_or thresholds at 0))
+pub none-more : (words thresholds : List ℕ) (any at mask : ℕ)
+    → (mask ≡ 0 → is_below (get_or words at 0) (get_or thresholds at 0) ≡ false)
     → NoneBelow words thresholds any at
-    → NoneBelow words thresholds (bit_or any bit) (at + 1)
-none-more words thresholds any at bit is so_far zero_now k below =
+    → NoneBelow words thresholds (bit_or any mask) (at + 1)
+none-more words thresholds any at mask not_here so_far zero_now k below =
     elim (cases_eq k at) [
-      | inl here ↦ ap (λ (j : ℕ). is_below (get_or words j 0) (get_or thresholds j 0)) here ∙ no-bit (is_below (get_or words at 0) (get_or thresholds at 0)) (sym is ∙ or-right any bit zero_now)
-      | inr other ↦ so_far (or-left any bit zero_now) k (omega arith)
+      | inl here ↦ ap (λ (j : ℕ). is_below (get_or words j 0) (get_or thresholds j 0)) here ∙ not_here (or-right any mask zero_now)
+      | inr other ↦ so_far (or-left any mask zero_now) k (omega arith)
     ]
   where
-    no-bit : (b : Bool) → bit_of b ≡ 0 → b ≡ false
-    no-bit true e = absurd (omega arith)
-    no-bit false e = refl
-
     or-left : (a b : ℕ) → bit_or a b ≡ 0 → a ≡ 0
     or-left a b e = omega (arith, e, le_or_l a b)
 

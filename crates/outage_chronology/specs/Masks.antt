@@ -11,10 +11,6 @@ says_up mask = not (mask == 0)
 abbrev pub IsMask : ℕ → Type 0
 IsMask mask = mask ≡ up_mask (says_up mask)
 
--- a test as a number
-abbrev pub bit_of : Bool → ℕ
-bit_of holds = if holds then 1 else 0
-
 -- the word as it is compared with a kept threshold
 abbrev pub compared : ℕ → ℕ
 compared word = min word 4294967294

@@ -1,6 +1,6 @@
 ghost use Rattle.std.specs.Prelude.{◌≡◌, ℕ, ◌<◌, ◌≤◌, [], filter, length, slice_index, vec_capacity, true, false};
 ghost use Rattle.std.specs.List.{range_with_len};
-ghost use Rattle.outage_chronology.specs.Masks.{up_mask, says_up, IsMask, bit_of, is_below, turns, next_state, threshold_of, AreOfStates};
+ghost use Rattle.outage_chronology.specs.Masks.{up_mask, says_up, IsMask, is_below, turns, next_state, threshold_of, AreOfStates};
 
 /// The mask of a component that is up.
 const UP: u32 = u32::MAX;
@@ -16,24 +16,30 @@ fn is_below(word: u32, threshold: u32) -> bool
     word.min(LAST_WORD) < threshold
 }
 
-/// 1, or 0.
+/// All ones where a word may be below a threshold, and 0 only where it isn't.
 #[inline]
-fn bit_if(holds: bool) -> u32
-    ensures { result ≡ bit_of holds }
+fn may_be_below(word: u32, threshold: u32) -> u32
+    ensures { result ≡ 0 → is_below word threshold ≡ false }
 {
-    u32::from(holds)
+    // The greatest word, which is compared as the one below it, wraps to 0 here: it always may be.
+    if word.wrapping_add(1) <= threshold {
+        u32::MAX
+    } else {
+        0
+    }
 }
 
-/// Whether some word is below its threshold.
+/// Whether some word may be below its threshold.
+#[inline]
 fn any_below(words: &[u32], thresholds: &[u32]) -> bool
     requires { length thresholds.now ≡ length words.now }
     ensures none { result ≡ false → (k : ℕ) → k < length words.now
         → is_below (slice_index words.now k) (slice_index thresholds.now k) ≡ false }
 {
-    // Bits and no branch: what a word decides can't be foretold, and most hours decide nothing.
+    // Masks and no branch: what a word decides can't be foretold, and most hours decide nothing.
     let mut any = 0;
     for at in 0..words.len() {
-        any |= bit_if(is_below(words[at], thresholds[at]));
+        any |= may_be_below(words[at], thresholds[at]);
     }
     any != 0
 }
@@ -103,7 +109,12 @@ pub(crate) fn go_on(
     ensures room { vec_capacity changed.new ≡ vec_capacity changed.old }
 {
     changed.clear();
-    let mut from = 0;
+    // In most hours none changes.
+    let mut from = if any_below(words, thresholds) {
+        0
+    } else {
+        masks.len()
+    };
     while from < masks.len() {
         let to = masks.len().min(from + LOT);
         if any_below(&words[from..to], &thresholds[from..to]) {

@@ -18,12 +18,19 @@ pub(crate) fn caps_of(storage: &Storage, energy: u32) -> Caps
     }
 }
 
-/// The whole part of a quotient. Where it is 0, as the room of a full storage is, nothing is divided.
+/// The whole part of a quotient. Where it is 0 or 1, as for the room of a full storage and of one that has just
+/// lost its share, nothing is divided.
 fn quotient(amount: u32, by: u32) -> u32
     requires { 0 < by }
     ensures { result ≡ amount / by }
 {
-    if amount < by { 0 } else { amount / by }
+    if amount < by {
+        0
+    } else if amount - by < by {
+        1
+    } else {
+        amount / by
+    }
 }
 
 /// The energy in kWh after an hour with this charge and discharge in MW. What is taken is rounded up.

@@ -1,11 +1,11 @@
-use Rattle.std.proofs.Common.{arith, false, ◌≡◌, ◌≤◌, ◌<◌, ◌++◌, ◌∷◌, [], ◌+◌, ◌-◌, length, take, drop, get_or, get_or-take, get_or-drop, ap, sym, ◌∙◌, List, ℕ}
+use Rattle.std.proofs.Common.{arith, false, ◌≡◌, ◌≤◌, ◌<◌, ◌++◌, ◌∷◌, [], ◌+◌, ◌-◌, length, take, drop, get_or, get_or-take, get_or-drop, refl, ap, sym, ◌∙◌, List, ℕ}
 use Rattle.std.proofs.lemmas.List.{length-take-le, length-drop}
 use Rattle.std.specs.Prelude.{slice_set, vec_capacity}
 use Rattle.std.specs.Int.{w32, bit_not}
 use Rattle.outage_chronology.specs.Masks.{is_below}
-use Rattle.outage_chronology.proofs.MaskSteps.{Given, turned-stays, turned-lot, turned-changes, turns-by, turns_at}
+use Rattle.outage_chronology.proofs.MaskSteps.{Given, turned-stays, turned-lot, turned-changes, turns-by, turns_at, turned-none}
 use Rattle.outage_chronology.proofs.masks.go_on.Goals as goal
-use Rattle.outage_chronology.proofs.masks.go_on.Goals.{then-is_below, else-is_below}
+use Rattle.outage_chronology.proofs.masks.go_on.Goals.{then-is_below, else-is_below, then-any_below, else-any_below}
 
 pub loop-at-preserved : goal.loop-at-preserved
 loop-at-preserved c =
@@ -66,7 +66,7 @@ loop-from-preserved c =
     ∙ ap (λ (t : ℕ). is_below (get_or g.words k 0) t) (sym (far.thresholds_rest k past))
     ∙ ap (λ (t : ℕ). is_below (get_or g.words k 0) t) (sym (of-slice c.loop-from.thresholds from to k past below))
     ∙ ap (λ (w : ℕ). is_below w (get_or (take (to - from) (drop from c.loop-from.thresholds)) (k - from) 0)) (sym (of-slice g.words from to k past below))
-    ∙ c.any_below.ensures.none c.if-any_below.false (k - from) (omega (arith, size)) in
+    ∙ c.any_below-in-loop-from.ensures.none c.if-any_below-2.false (k - from) (omega (arith, size)) in
     record {
       within = most;
       far = turned-lot g old c.loop-from.masks c.loop-from.thresholds c.loop-from.changed.items from to on stay (λ k below. c.requires.masks k (omega (arith, most))) (λ k below. c.requires.thresholds k (omega (arith, most))) far;
@@ -74,3 +74,30 @@ loop-from-preserved c =
       thresholds_stay = c.loop-from.invariant.thresholds_stay;
       space = c.loop-from.invariant.space;
     }
+
+-- where no word is below its threshold, no mask turns
+pub loop-from-init : goal.loop-from-init
+loop-from-init c =
+    let g : Given = record { words = c.args.words.now; fails = c.args.fails.now; repairs = c.args.is_repaired.now; before = c.args.masks.now } in
+    let old = c.args.thresholds.now in
+    let none = turned-none g old in
+    let stay = λ (none_below : (k : ℕ) → k < length g.words → is_below (get_or g.words k 0) (get_or old k 0) ≡ false) (k : ℕ) (past : 0 ≤ k) (below : k < length g.before).
+    sym (turns-by g old k (length g.before) below c.requires.thresholds) ∙ none_below k (omega (arith, c.requires.words)) in
+    elim c.if-any_below.branch [
+      | then-any_below w ↦ record {
+        within = omega (arith, w.from-is);
+        far = rw (w.from-is, c.clear.ensures.items) none;
+        masks_stay = refl;
+        thresholds_stay = refl;
+        space = refl;
+      }
+      | else-any_below w ↦ record {
+        within = omega (arith, w.from-is);
+        far =
+            rw (w.from-is, c.clear.ensures.items)
+            (turned-lot g old g.before old [] 0 (length g.before) (omega arith) (stay (c.any_below.ensures.none w.if-any_below.false)) c.requires.masks c.requires.thresholds none);
+        masks_stay = refl;
+        thresholds_stay = refl;
+        space = refl;
+      }
+    ]
