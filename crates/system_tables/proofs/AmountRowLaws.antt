@@ -4,7 +4,7 @@ use Rattle.std.specs.List.{range_with_len}
 use Rattle.std.proofs.lemmas.List.{drop_at, take-append-le, drop-append-le, length-drop, length-take-le, get_or-take, get_or-drop, take_all, take_more, same_lists}
 use Rattle.std.proofs.lemmas.List.FromFn.{length-map-range_with_len, get_or-map-range_with_len, map-range_with_len_more}
 use Rattle.system_model.specs.Parts.{row_of}
-use Rattle.system_tables.specs.AmountRows.{HeldRows, rows_of}
+use Rattle.system_tables.specs.AmountRows.{rows_of}
 
 pub rows_of_none : (width : ℕ) (amounts : List ℕ) → rows_of width 0 amounts ≡ []
 unfolding rows_of

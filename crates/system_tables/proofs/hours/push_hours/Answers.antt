@@ -1,4 +1,4 @@
-use Rattle.std.proofs.Common.{◌≡◌, [], ◌∷◌, ◌++◌, List, length, get_or, sym, ap, ◌∙◌, arith}
+use Rattle.std.proofs.Common.{◌≡◌, [], ◌∷◌, ◌++◌, List, get_or, sym, ap, ◌∙◌, arith}
 use Rattle.system_model.specs.System.{SystemParts, HourAmounts, amounts_of, zone_count, hour_count}
 use Rattle.system_tables.proofs.HourLaws.{hour_among, pushed-more, pushed-counted}
 use Rattle.system_tables.proofs.hours.push_hours.Goals as goal

@@ -1,5 +1,4 @@
 use Rattle.std.proofs.Common.{◌≡◌, length}
-use Rattle.system_model.specs.System.{zone_count}
 use Rattle.system_tables.proofs.HourLaws.{pushed}
 use Rattle.system_tables.proofs.hours.push_hours.Given as goal
 
