@@ -1,12 +1,11 @@
-use Rattle.std.proofs.Common.{◌≡◌, ℕ, ◌+◌, ◌-◌, ◌*◌, ◌^◌, ◌<◌, ◌≤◌, List, [], ◌++◌, length, get_or, take, Option, None, Ok, refl, sym, ap, ◌∙◌, subst, arith}
+use Rattle.std.proofs.Common.{◌≡◌, ℕ, ◌+◌, ◌-◌, ◌*◌, ◌^◌, ◌<◌, ◌≤◌, List, [], ◌++◌, length, get_or, take, None, Ok, subst, arith}
 use Rattle.std.specs.Char.{digit_value}
 use Rattle.std.specs.Str.Parse.{AllDigits, digits_value}
 use Rattle.std.proofs.lemmas.Int.Digits.{digits_more, digits_value-lt, digits_value_more}
 use Rattle.std.proofs.lemmas.List.{append-nil, length-take-le}
 use Rattle.std.proofs.lemmas.Str.{digit_value_digit}
 use Rattle.std.proofs.lemmas.Str.Parse.{digit_from_value}
-use Rattle.decimal_text.specs.Numeral.{Numeral, IsNumeral, Spells, IsWorth}
-use Rattle.decimal_text.specs.Faults.{IsNumber}
+use Rattle.decimal_text.specs.Numeral.{Numeral, IsWorth}
 use Rattle.decimal_text.specs.Reading.{whole_of, numeral}
 use Rattle.decimal_text.proofs.Laws.{whole_only}
 use Rattle.decimal_text.proofs.TenPowers.{ten_grows}

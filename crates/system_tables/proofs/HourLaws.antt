@@ -1,4 +1,4 @@
-use Rattle.std.proofs.Common.{◌≡◌, ℕ, ◌+◌, ◌<◌, ◌≤◌, List, [], ◌∷◌, ◌++◌, length, get_or, take, drop, set, sum, map, replicate, All, Option, Result, Ok, Err, sym, ap, ◌∙◌, suc, arith}
+use Rattle.std.proofs.Common.{◌≡◌, ℕ, ◌+◌, ◌<◌, ◌≤◌, List, [], ◌∷◌, ◌++◌, length, get_or, take, drop, set, sum, map, replicate, All, Option, Result, Ok, Err, refl, sym, ap, ◌∙◌, suc, arith}
 use Rattle.std.proofs.Math.Seq.{take-suc-set}
 use Rattle.std.proofs.lemmas.List.{at_drop_more, at_drop_all}
 use Rattle.std.proofs.lemmas.List.{length-replicate}
@@ -13,8 +13,9 @@ use Rattle.system_tables.specs.declared.faults.Place.{Place}
 use Rattle.system_tables.specs.declared.faults.TableFault.{TableFault}
 use Rattle.system_tables.specs.declared.faults.ReadError.{ReadError}
 use Rattle.system_tables.specs.declared.faults.ReadError.TheVariants.{Table, OutOfMemory}
+use Rattle.system_tables.specs.AmountRows.{HeldRows, no_rows}
 use Rattle.system_tables.specs.Faults.{◌>>=◌, in_turn}
-use Rattle.system_tables.specs.Hours.{HoursAbove, IsHoursRead, IsAmountRow, amount_in, next_amount_in}
+use Rattle.system_tables.specs.Hours.{HoursAbove, IsHoursRead, IsAmountRow, AreAmountRows, amount_in, next_amount_in}
 use Rattle.system_tables.specs.Outcome.{GivesNow}
 use Rattle.system_tables.proofs.TurnLaws.{in_turn-err}
 
@@ -70,10 +71,17 @@ sum-zeros : (n : ℕ) → sum (replicate n 0) ≡ 0
 sum-zeros n = sum_by-replicate (λ (x : ℕ). x) n 0 ∙ omega arith
 
 -- rows of zeros are within the limit
-pub zero_rows : (hours zones : ℕ) → All (IsAmountRow zones) (replicate hours (replicate zones 0))
-zero_rows hours zones =
-    All-replicate (IsAmountRow zones) hours (replicate zones 0)
-    (record { size = length-replicate zones 0; within = omega (arith, sum-zeros zones) })
+pub zero_rows : (hours zones : ℕ) (held : HeldRows)
+    → held ≡ record (no_rows zones) { rows = replicate hours (replicate zones 0) }
+    → AreAmountRows zones held
+zero_rows hours zones held is =
+    rw is
+    record {
+      width = refl;
+      each =
+          All-replicate (IsAmountRow zones) hours (replicate zones 0)
+          (record { size = length-replicate zones 0; within = omega (arith, sum-zeros zones) });
+    }
 
 -- an hour of two rows
 pub hour_among : (zones : ℕ) (loads variables : List (List ℕ)) (hour : ℕ)

@@ -5,6 +5,7 @@ pub mod NameLaws
 pub mod ColumnLaws
 pub mod TurnLaws
 pub mod SoFar
+pub mod AmountRowLaws
 pub mod HourLaws
 pub mod OutcomeLaws
 pub mod DigitLaws

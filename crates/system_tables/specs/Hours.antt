@@ -1,5 +1,5 @@
 -- The tables of load and of variable generation: an amount for each hour and zone.
-use Rattle.std.specs.Prelude.{◌≡◌, ℕ, ◌+◌, ◌≤◌, ◌==◌, not, Bool, true, false, List, [], ◌∷◌, ◌++◌, length, sum, map, replicate, nat_lt, slice_index_or, Option, None, Some, Result, Ok, Err, codes}
+use Rattle.std.specs.Prelude.{◌≡◌, ℕ, ◌+◌, ◌≤◌, ◌==◌, not, Bool, true, false, List, [], ◌∷◌, ◌++◌, All, length, sum, map, replicate, nat_lt, slice_index_or, Option, None, Some, Result, Ok, Err, codes}
 use Rattle.std.specs.List.{range_with_len}
 use Rattle.ra_base.specs.declared.limits.TheConstants.{MOST_HOURS, MOST_POOLED_MW}
 use Rattle.ra_base.specs.declared.table.TableName.{TableName}
@@ -12,6 +12,7 @@ use Rattle.system_tables.specs.declared.faults.Column.TheVariants.{Fixed, Zone, 
 use Rattle.system_tables.specs.declared.faults.Place.{Place}
 use Rattle.system_tables.specs.declared.faults.ReadError.{ReadError}
 use Rattle.system_tables.specs.declared.faults.ReadError.TheVariants.{Table, OutOfMemory}
+use Rattle.system_tables.specs.AmountRows.{HeldRows}
 use Rattle.system_tables.specs.Columns.{column_in, optional_column_in}
 use Rattle.system_tables.specs.Faults.{Read, ◌>>=◌, fault_at, below, refuse, in_turn, table_in, shape_in}
 use Rattle.system_tables.specs.Fields.{whole_in, value_in}
@@ -122,6 +123,11 @@ with_hours above load variable = do
 pub record IsAmountRow (zones : ℕ) (amounts : List ℕ) : Type 0 where
   pub size : length amounts ≡ zones
   pub within : sum amounts ≤ MOST_POOLED_MW
+
+-- rows of such amounts
+pub record AreAmountRows (zones : ℕ) (held : HeldRows) : Type 0 where
+  pub width : held.width ≡ zones
+  pub each : All (IsAmountRow zones) held.rows
 
 -- the answer gives the amounts of the outcome's hours
 abbrev pub IsHoursRead : {U : Type 0} → Read HoursAbove → Result U ReadError → List (List ℕ) → Type 0

@@ -12,6 +12,7 @@ pub mod Units
 pub mod Interfaces
 pub mod Lines
 pub mod Storages
+pub mod AmountRows
 pub mod Hours
 pub mod Tables
 pub mod SameColumns

@@ -4,9 +4,11 @@ ghost use Rattle.ra_base.specs.declared.limits.TheConstants.{MOST_ZONES, MOST_HO
 ghost use Rattle.system_model.specs.System.{zone_count, hour_count};
 ghost use Rattle.system_tables.specs.SoFar.{AreZones};
 ghost use Rattle.system_tables.specs.Faults.{in_turn, table_in};
-ghost use Rattle.system_tables.specs.Hours.{amount_column_in, next_column_in, hour_order_in, amount_in, next_amount_in, row_within_in, hours_above, hour_in, hour_rows_in, amounts_in, some_hour_in, all_hours_in, variables_in, hours_of, with_hours, IsAmountRow, IsHoursRead};
+ghost use Rattle.system_tables.specs.Hours.{amount_column_in, next_column_in, hour_order_in, amount_in, next_amount_in, row_within_in, hours_above, hour_in, hour_rows_in, amounts_in, some_hour_in, all_hours_in, variables_in, hours_of, with_hours, AreAmountRows, IsHoursRead};
+ghost use Rattle.system_tables.specs.AmountRows.{no_rows};
 ghost use Rattle.system_tables.specs.Outcome.{Gives, GivesNow, GivesRead};
 
+use crate::amount_rows::AmountRows;
 use crate::columns::{FoundColumn, column, optional_column};
 use crate::faults::{Cause, Column, Place, ReadError, TableFault, refuse};
 use crate::fields::{shape, value, whole};
@@ -156,7 +158,6 @@ fn row_within(place: Place, total: u32) -> Result<(), TableFault>
 // Adds the hour of the row that was read last.
 #[tactic(auto, unfolding(crate::specs::Hours::hour_in))]
 fn add_hour(
-    alloc: Global,
     table: TableName,
     limit: u32,
     hour: FoundColumn,
@@ -164,19 +165,22 @@ fn add_hour(
     width: usize,
     row: &Records<'_>,
     wanted: &mut Option<u64>,
-    amounts: &mut Vec<Amounts>,
+    these: &mut Amounts,
+    amounts: &mut AmountRows,
 ) -> Result<(), ReadError>
     requires few { length columns.now ≤ MOST_ZONES }
     requires limit { limit ≤ MOST_HOURS }
-    requires room { length amounts.old.items ≤ limit }
-    requires rows { All (IsAmountRow (length columns.now)) amounts.old.items }
+    requires size { length these.old ≡ length columns.now }
+    requires room { length amounts.old.rows ≤ limit }
+    requires rows { AreAmountRows (length columns.now) amounts.old }
     ensures exact { GivesNow
-        (hour_in table limit hour columns.now width (hours_above wanted.old amounts.old.items) row.now.row)
-        result (hours_above wanted.new amounts.new.items) }
-    ensures room { OnOk result (length amounts.new.items ≤ limit) }
-    ensures rows { OnOk result (All (IsAmountRow (length columns.now)) amounts.new.items) }
+        (hour_in table limit hour columns.now width (hours_above wanted.old amounts.old.rows) row.now.row)
+        result (hours_above wanted.new amounts.new.rows) }
+    ensures room { OnOk result (length amounts.new.rows ≤ limit) }
+    ensures rows { OnOk result (AreAmountRows (length columns.now) amounts.new) }
+    ensures size { OnOk result (length these.new ≡ length columns.now) }
 {
-    let count = amounts.len() as u32;
+    let count = amounts.len();
     let place = Place {
         table,
         row: count + 2,
@@ -184,12 +188,9 @@ fn add_hour(
     shape(place, limit, count, width, row)?;
     let found = value(place, hour, row)?;
     hour_order(place, hour.column, *wanted, found)?;
-    let mut these = Amounts::zeros(alloc, columns.len())?;
-    let total = zone_amounts(place, columns, row, &mut these)?;
+    let total = zone_amounts(place, columns, row, these)?;
     row_within(place, total)?;
-    if amounts.push(these).is_err() {
-        return Err(ReadError::OutOfMemory);
-    }
+    amounts.push(these)?;
     *wanted = Some(found + 1);
     Ok(())
 }
@@ -203,21 +204,21 @@ fn add_hours(
     columns: &[Option<FoundColumn>],
     width: usize,
     rows: &mut Records<'_>,
-    amounts: &mut Vec<Amounts>,
+    amounts: &mut AmountRows,
 ) -> Result<(), ReadError>
     requires few { length columns.now ≤ MOST_ZONES }
     requires limit { limit ≤ MOST_HOURS }
-    requires none { amounts.old.items ≡ [] }
+    requires none { amounts.old ≡ no_rows (length columns.now) }
     ensures exact { IsHoursRead
         (in_turn (hour_in table limit hour columns.now width) (hours_above None []) rows.old.rest)
-        result amounts.new.items }
-    ensures room { OnOk result (length amounts.new.items ≤ limit) }
-    ensures rows { OnOk result (All (IsAmountRow (length columns.now)) amounts.new.items) }
+        result amounts.new.rows }
+    ensures room { OnOk result (length amounts.new.rows ≤ limit) }
+    ensures rows { OnOk result (AreAmountRows (length columns.now) amounts.new) }
 {
+    let mut these = Amounts::zeros(alloc, columns.len())?;
     let mut wanted = None;
     'rows: while rows.next()? {
         add_hour(
-            alloc,
             table,
             limit,
             hour,
@@ -225,6 +226,7 @@ fn add_hours(
             width,
             rows,
             &mut wanted,
+            &mut these,
             amounts,
         )?;
     }
@@ -241,16 +243,16 @@ fn read_rows(
     zones: &Names,
     rows: &mut Records<'_>,
     columns: &mut Vec<Option<FoundColumn>>,
-    amounts: &mut Vec<Amounts>,
+    amounts: &mut AmountRows,
 ) -> Result<(), ReadError>
     requires few { length zones.now ≤ MOST_ZONES }
     requires limit { limit ≤ MOST_HOURS }
     requires no_columns { columns.old.items ≡ [] }
-    requires none { amounts.old.items ≡ [] }
+    requires none { amounts.old ≡ no_rows (length zones.now) }
     ensures exact { IsHoursRead (table_in table rows.old.rest (hour_rows_in required table limit zones.now))
-        result amounts.new.items }
-    ensures room { OnOk result (length amounts.new.items ≤ limit) }
-    ensures rows { OnOk result (All (IsAmountRow (length zones.now)) amounts.new.items) }
+        result amounts.new.rows }
+    ensures room { OnOk result (length amounts.new.rows ≤ limit) }
+    ensures rows { OnOk result (AreAmountRows (length zones.now) amounts.new) }
 {
     header(table, rows)?;
     let hour = column(table, Column::Fixed(0), rows, b"hour")?;
@@ -267,15 +269,15 @@ fn read_amounts(
     limit: u32,
     zones: &Names,
     bytes: &[u8],
-    amounts: &mut Vec<Amounts>,
+    amounts: &mut AmountRows,
 ) -> Result<(), ReadError>
     requires few { length zones.now ≤ MOST_ZONES }
     requires limit { limit ≤ MOST_HOURS }
-    requires none { amounts.old.items ≡ [] }
+    requires none { amounts.old ≡ no_rows (length zones.now) }
     ensures exact { IsHoursRead (amounts_in required table limit zones.now bytes.now) result
-        amounts.new.items }
-    ensures room { OnOk result (length amounts.new.items ≤ limit) }
-    ensures rows { OnOk result (All (IsAmountRow (length zones.now)) amounts.new.items) }
+        amounts.new.rows }
+    ensures room { OnOk result (length amounts.new.rows ≤ limit) }
+    ensures rows { OnOk result (AreAmountRows (length zones.now) amounts.new) }
 {
     let mut rows = Records::new(alloc, bytes);
     let mut columns = Vec::new(alloc);
@@ -332,13 +334,15 @@ fn add_zeros(
     alloc: Global,
     zones: usize,
     hours: u32,
-    variables: &mut Vec<Amounts>,
+    variables: &mut AmountRows,
 ) -> Result<(), OutOfMemory>
-    requires none { variables.old.items ≡ [] }
-    ensures { OnOk result (variables.new.items ≡ replicate hours (replicate zones 0)) }
+    requires few { hours ≤ MOST_HOURS }
+    requires none { variables.old ≡ no_rows zones }
+    ensures { OnOk result (variables.new ≡ record (no_rows zones) { rows = replicate hours (replicate zones 0) }) }
 {
+    let none = Amounts::zeros(alloc, zones)?;
     for _hour in 0..hours {
-        variables.push(Amounts::zeros(alloc, zones)?)?;
+        variables.push(&none)?;
     }
     Ok(())
 }
@@ -350,14 +354,14 @@ fn read_variables(
     hours: u32,
     zones: &Names,
     table: &Option<Text>,
-    variables: &mut Vec<Amounts>,
+    variables: &mut AmountRows,
 ) -> Result<(), ReadError>
     requires few { length zones.now ≤ MOST_ZONES }
     requires limit { hours ≤ MOST_HOURS }
-    requires none { variables.old.items ≡ [] }
-    ensures exact { GivesNow (variables_in zones.now hours table.now) result variables.new.items }
-    ensures size { OnOk result (length variables.new.items ≡ hours) }
-    ensures rows { OnOk result (All (IsAmountRow (length zones.now)) variables.new.items) }
+    requires none { variables.old ≡ no_rows (length zones.now) }
+    ensures exact { GivesNow (variables_in zones.now hours table.now) result variables.new.rows }
+    ensures size { OnOk result (length variables.new.rows ≡ hours) }
+    ensures rows { OnOk result (AreAmountRows (length zones.now) variables.new) }
 {
     let Some(table) = table else {
         add_zeros(alloc, zones.len(), hours, variables)?;
@@ -365,25 +369,30 @@ fn read_variables(
     };
     let name = TableName::Variable;
     read_amounts(alloc, false, name, hours, zones, table.bytes(), variables)?;
-    all_hours(variables.len() as u32, hours)?;
+    all_hours(variables.len(), hours)?;
     Ok(())
 }
 
 // Adds the hours to the draft.
 fn push_hours(
+    alloc: Global,
     draft: &mut Draft,
-    loads: &[Amounts],
-    variables: &[Amounts],
+    loads: &AmountRows,
+    variables: &AmountRows,
 ) -> Result<(), OutOfMemory>
     requires before { draft.old.hours ≡ [] }
-    requires few { length loads.now ≤ MOST_HOURS }
-    requires size { length variables.now ≡ length loads.now }
-    requires loads { All (IsAmountRow (zone_count draft.old)) loads.now }
-    requires variables { All (IsAmountRow (zone_count draft.old)) variables.now }
-    ensures { OnOk result (draft.new ≡ record draft.old { hours = hours_of loads.now variables.now }) }
+    requires few { length loads.now.rows ≤ MOST_HOURS }
+    requires size { length variables.now.rows ≡ length loads.now.rows }
+    requires loads { AreAmountRows (zone_count draft.old) loads.now }
+    requires variables { AreAmountRows (zone_count draft.old) variables.now }
+    ensures { OnOk result (draft.new ≡ record draft.old { hours = hours_of loads.now.rows variables.now.rows }) }
 {
+    let mut load = Amounts::zeros(alloc, loads.width())?;
+    let mut variable = Amounts::zeros(alloc, variables.width())?;
     for hour in 0..loads.len() {
-        draft.push_hour(&loads[hour], &variables[hour])?;
+        loads.copy(hour, &mut load);
+        variables.copy(hour, &mut variable);
+        draft.push_hour(&load, &variable)?;
     }
     Ok(())
 }
@@ -396,23 +405,23 @@ fn add_both(
     variable: &Option<Text>,
     zones: &Names,
     draft: &mut Draft,
-    loads: &mut Vec<Amounts>,
-    variables: &mut Vec<Amounts>,
+    loads: &mut AmountRows,
+    variables: &mut AmountRows,
 ) -> Result<(), ReadError>
     requires zones_are { AreZones draft.old zones.now }
     requires before { draft.old.hours ≡ [] }
-    requires no_loads { loads.old.items ≡ [] }
-    requires no_variables { variables.old.items ≡ [] }
+    requires no_loads { loads.old ≡ no_rows (length zones.now) }
+    requires no_variables { variables.old ≡ no_rows (length zones.now) }
     ensures exact { GivesNow (with_hours draft.old load.now variable.now) result draft.new }
     ensures some { OnOk result (0 < hour_count draft.new) }
     ensures zones { OnOk result (draft.new.zone_names ≡ zones.now) }
 {
     let name = TableName::Load;
     read_amounts(alloc, true, name, MOST_HOURS, zones, load, loads)?;
-    let hours = loads.len() as u32;
+    let hours = loads.len();
     some_hour(hours)?;
     read_variables(alloc, hours, zones, variable, variables)?;
-    push_hours(draft, loads, variables)?;
+    push_hours(alloc, draft, loads, variables)?;
     Ok(())
 }
 
@@ -430,8 +439,8 @@ pub(crate) fn read_hours(
     ensures some { OnOk result (0 < hour_count draft.new) }
     ensures zones { OnOk result (draft.new.zone_names ≡ zones.now) }
 {
-    let mut loads = Vec::new(alloc);
-    let mut variables = Vec::new(alloc);
+    let mut loads = AmountRows::new(alloc, zones.len());
+    let mut variables = AmountRows::new(alloc, zones.len());
     add_both(
         alloc,
         load,

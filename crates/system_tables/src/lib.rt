@@ -1,6 +1,7 @@
 //! The seven tables of a system's folder, read exactly: the system that they spell, or their first fault.
 #![tactic(auto)]
 
+mod amount_rows;
 mod columns;
 mod faults;
 mod fields;

@@ -1,5 +1,4 @@
-use Rattle.std.proofs.Common.{◌≡◌, ◌<◌, ◌≤◌, length, take, arith, sym, subst}
-use Rattle.std.specs.Str.Parse.{AllDigits, digits_value}
+use Rattle.std.proofs.Common.{◌≡◌, ◌<◌, length, take, arith}
 use Rattle.std.proofs.lemmas.List.{take_all}
 use Rattle.decimal_text.proofs.ScanLaws.{some_there}
 use Rattle.system_tables.proofs.DigitLaws.{IsDigitMore, digit_more, plain_whole}
