@@ -17,7 +17,7 @@ use Rattle.sample_totals.specs.declared.outcomes.HourOutcome.{HourOutcome}
 use Rattle.cut_certificate.specs.declared.chains.Chain.{Chain}
 use Rattle.cut_certificate.specs.Chain.{empty_chain, AreSized, Fit, IsAccepted, IsBestOutcome, all_unserved}
 use Rattle.cut_certificate.specs.Least.{IsLeastUnserved}
-use Rattle.sample_run.specs.HourNetwork.{shape_of, link_of, network_of, device_caps}
+use Rattle.sample_run.specs.HourNetwork.{shape_of, link_of, network_of, device_caps, AreLinks}
 use Rattle.sample_run.specs.Run.{IsHour, energies_after}
 use Rattle.sample_run.specs.Moments.{IsKept}
 use Rattle.sample_run.specs.declared.up_sums.UpSums.{UpSums}
@@ -127,20 +127,22 @@ pub answered : {A E : Type 0} (result : Result A E) (value : A) (P : A → Type 
 answered result value P is holds = subst (λ r. IfOk r P) is holds
 
 -- what is made for a system is kept from then on
-pub kept-first : (system : SystemParts) (shape : ShapeParts) (standing : Standing) (sums : UpSums) (held : Holdings) (n : NetworkParts) (dispatcher : ShapeParts) (outcome : HourOutcome) (chain : Chain) (zones devices : ℕ)
+pub kept-first : (system : SystemParts) (shape : ShapeParts) (standing : Standing) (sums : UpSums) (held : Holdings) (empty n : NetworkParts) (dispatcher : ShapeParts) (outcome : HourOutcome) (chain : Chain) (zones devices : ℕ)
     → shape ≡ shape_of system
     → standing.system ≡ system
     → AreSums system (is_up_at standing) sums
     → held ≡ record { system = system; energies = start_energies system }
-    → n ≡ empty_network shape
+    → empty ≡ empty_network shape
+    → n ≡ record empty { forwards = n.forwards; backwards = n.backwards }
+    → AreLinks system (is_up_at standing) n
     → dispatcher ≡ shape
     → chain ≡ empty_chain shape
     → zones ≡ shape.zones
     → devices ≡ device_count shape
     → outcome ≡ record { hour = 0; unserved = replicate zones 0; discharge = replicate devices 0; charge = replicate devices 0; energy = replicate devices 0; cut = 0 }
     → IsKept system standing sums held n dispatcher outcome chain
-kept-first system shape standing sums held n dispatcher outcome chain zones devices made stands sum_up holds empty dispatches none zones_are devices_are out =
-    let at : n.shape ≡ shape = ap (λ (m : NetworkParts). m.shape) empty in
+kept-first system shape standing sums held empty n dispatcher outcome chain zones devices made stands sum_up holds is_empty linked links dispatches none zones_are devices_are out =
+    let at : n.shape ≡ shape = ap (λ (m : NetworkParts). m.shape) linked ∙ ap (λ (m : NetworkParts). m.shape) is_empty in
     let by_device : length (replicate devices 0) ≡ device_count n.shape =
     length-replicate devices 0 ∙ devices_are ∙ sym (ap device_count at) in
     let by_zone : length (replicate zones 0) ≡ n.shape.zones =
@@ -151,6 +153,7 @@ kept-first system shape standing sums held n dispatcher outcome chain zones devi
       storages = ap (λ (h : Holdings). h.system) holds;
       held = ap (λ (h : Holdings). length h.energies) holds ∙ length-map system.storages (λ (storage : Storage). storage.start);
       shape = at ∙ made;
+      links = links;
       dispatches = dispatches ∙ made;
       sizes =
           record {
@@ -172,12 +175,13 @@ pub kept-again : (system : SystemParts) (standing : Standing) (sums : UpSums) (h
     → AreSums system (is_up_at standing) sums
     → held.system ≡ system
     → n.shape ≡ shape_of system
+    → AreLinks system (is_up_at standing) n
     → dispatcher ≡ n.shape
     → Fit n outcome chain
     → energies ≡ energies_after system held.energies outcome.charge outcome.discharge
     → held' ≡ record held { energies = energies }
     → IsKept system standing sums held' n dispatcher (record outcome { energy = energies }) chain
-kept-again system standing sums held held' n dispatcher outcome energies chain stands sum_up holds shape dispatches fit after is =
+kept-again system standing sums held held' n dispatcher outcome energies chain stands sum_up holds shape links dispatches fit after is =
     let size : length energies ≡ storage_count system = ap length after ∙ length-map-range_with_len _ 0 (storage_count system) in
     record {
       chronology = stands;
@@ -185,6 +189,7 @@ kept-again system standing sums held held' n dispatcher outcome energies chain s
       storages = ap (λ (h : Holdings). h.system) is ∙ holds;
       held = ap (λ (h : Holdings). length h.energies) is ∙ size;
       shape = shape;
+      links = links;
       dispatches = dispatches ∙ shape;
       sizes =
           record {
@@ -228,14 +233,21 @@ pub least-made : (system : SystemParts) (up : NumberSet) (before : List ℕ) (ho
     → IsLeastUnserved (network_of system up before hour) (all_unserved (network_of system up before hour) outcome)
 least-made system up before hour n outcome is least = subst (λ (m : NetworkParts). IsLeastUnserved m (all_unserved m outcome)) is least
 
+-- the links of an hour's network
+pub network-links : (system : SystemParts) (up : NumberSet) (energies : List ℕ) (hour : ℕ) → AreLinks system up (network_of system up energies hour)
+unfolding network_of
+network-links system up energies hour = record { forwards = refl; backwards = refl }
+
 -- what is kept is kept on over the next hour
-pub kept-next : (system : SystemParts) (standing standing' : Standing) (sums sums' : UpSums) (held held' : Holdings) (n : NetworkParts) (dispatcher : ShapeParts) (outcome : HourOutcome) (chain : Chain)
+pub kept-next : (system : SystemParts) (standing standing' : Standing) (sums sums' : UpSums) (held held' : Holdings) (n n' : NetworkParts) (dispatcher : ShapeParts) (outcome : HourOutcome) (chain : Chain)
     → standing'.system ≡ standing.system
     → held' ≡ record held { energies = carried_energies held.system held.energies }
     → IsKept system standing sums held n dispatcher outcome chain
     → AreSums system (is_up_at standing') sums'
-    → IsKept system standing' sums' held' n dispatcher outcome chain
-kept-next system standing standing' sums sums' held held' n dispatcher outcome chain stands is kept sum_up =
+    → AreLinks system (is_up_at standing') n'
+    → n'.shape ≡ n.shape
+    → IsKept system standing' sums' held' n' dispatcher outcome chain
+kept-next system standing standing' sums sums' held held' n n' dispatcher outcome chain stands is kept sum_up links same =
     record {
       chronology = stands ∙ kept.chronology;
       kept_sums = sum_up;
@@ -243,9 +255,10 @@ kept-next system standing standing' sums sums' held held' n dispatcher outcome c
       held =
           ap (λ (h : Holdings). length h.energies) is ∙ length-map-range_with_len _ 0 (storage_count held.system)
           ∙ ap storage_count kept.storages;
-      shape = kept.shape;
+      shape = same ∙ kept.shape;
+      links = links;
       dispatches = kept.dispatches;
-      sizes = kept.sizes;
+      sizes = sized-again n n' outcome outcome.hour chain (sym same) kept.sizes;
     }
 
 -- sums over all components are those before hour 0, and those of an hour are those before the next
@@ -260,3 +273,12 @@ pub sums-next : (system : SystemParts) (standing standing' : Standing) (sums : U
 sums-next system standing standing' sums is are =
     subst (λ (s : Standing). AreSums system (was_up_at s) sums) (sym is)
     (subst (λ (h : ℕ). AreSums system (was_up standing.system standing.seed standing.sample h) sums) (sym (add-one standing.hour)) are)
+
+-- and the links of an hour are those before the next
+pub links-next : (system : SystemParts) (standing standing' : Standing) (n : NetworkParts)
+    → standing' ≡ record standing { hour = standing.hour + 1 }
+    → AreLinks system (is_up_at standing) n
+    → AreLinks system (was_up_at standing') n
+links-next system standing standing' n is are =
+    subst (λ (s : Standing). AreLinks system (was_up_at s) n) (sym is)
+    (subst (λ (h : ℕ). AreLinks system (was_up standing.system standing.seed standing.sample h) n) (sym (add-one standing.hour)) are)

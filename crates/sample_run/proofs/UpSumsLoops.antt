@@ -3,13 +3,13 @@ use Rattle.std.proofs.Common.{◌≡◌, ℕ, zero, suc, add-one, ◌+◌, ◌-�
 use Rattle.std.specs.List.{range_with_len}
 use Rattle.std.proofs.Math.Seq.{drop-cons}
 use Rattle.std.proofs.lemmas.List.{drop_all}
-use Rattle.std.proofs.lemmas.Bool.{cases_eq, cases_lt, cases_Bool, cond-true, cond-false, lt-ltb, le-ltb, or_left, or_right, or_from}
+use Rattle.std.proofs.lemmas.Bool.{cases_eq, cases_lt, cases_Bool, cond-true, cond-false, lt-ltb, le-ltb, or_left, or_right, or_from, false≢true}
 use Rattle.system_model.specs.System.{SystemParts}
 use Rattle.outage_chronology.specs.Outages.{component_count, changes, differ}
 use Rattle.outage_chronology.specs.Standing.{Standing, is_up_at, was_up_at, changed_at}
 use Rattle.zone_network.specs.Sums.{NumberSet}
 use Rattle.sample_run.specs.declared.up_sums.UpSums.{UpSums}
-use Rattle.sample_run.specs.UpSums.{AreSums, with_state, all_up, none_up}
+use Rattle.sample_run.specs.UpSums.{AreSums, CarrySame, with_state, all_up, none_up}
 use Rattle.sample_run.proofs.UpSumsSteps.{sums-alike, state-there, state-other}
 
 -- ---- all of them
@@ -290,3 +290,16 @@ followed-all system standing sums items index all has =
           unchanged (was_up_at standing k) (is_up_at standing k) (rest k past (omega arith))
           ∙ sym (until-later standing has.until k past)
     ]) has.are
+
+-- ---- what lines carry, over one change and more
+pub carry-more : (one two three : UpSums) (a b : Bool)
+    → (a ≡ false → CarrySame one two)
+    → (b ≡ false → CarrySame two three)
+    → a || b ≡ false
+    → CarrySame one three
+carry-more one two three true b first second none = absurd (false≢true (sym none))
+carry-more one two three false b first second none =
+    record {
+      forward = (second none).forward ∙ (first refl).forward;
+      backward = (second none).backward ∙ (first refl).backward;
+    }

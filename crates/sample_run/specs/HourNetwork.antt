@@ -1,6 +1,6 @@
 -- The network of an hour: what zones have and ask, what links carry and what devices may do, by which components
 -- are up and by what the storages hold.
-use Rattle.std.specs.Prelude.{ℕ, ◌+◌, ◌==◌, ◌&&◌, List, map, min, slice_index, if◌then◌else◌}
+use Rattle.std.specs.Prelude.{◌≡◌, ℕ, ◌+◌, ◌==◌, ◌&&◌, List, map, min, slice_index, if◌then◌else◌}
 use Rattle.std.specs.List.{range_with_len}
 use Rattle.system_model.specs.declared.components.Interface.{Interface}
 use Rattle.system_model.specs.declared.components.Line.{Line}
@@ -70,6 +70,11 @@ forward_limit system up interface =
 abbrev pub backward_limit : SystemParts → NumberSet → ℕ → ℕ
 backward_limit system up interface =
     limit_of system up (λ line. line.backward) (interface_at system interface).backward interface
+
+-- the links carry what the lines that are up let them
+pub record AreLinks (system : SystemParts) (up : NumberSet) (net : NetworkParts) : Type 0 where
+  pub forwards : net.forwards ≡ map (forward_limit system up) (range_with_len 0 (interface_count system))
+  pub backwards : net.backwards ≡ map (backward_limit system up) (range_with_len 0 (interface_count system))
 
 -- the caps of a storage that is up or out, by what the storages hold
 abbrev pub device_caps : SystemParts → NumberSet → List ℕ → ℕ → Caps

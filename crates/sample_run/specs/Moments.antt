@@ -9,7 +9,7 @@ use Rattle.zone_network.specs.Network.{ShapeParts, NetworkParts}
 use Rattle.sample_totals.specs.declared.outcomes.HourOutcome.{HourOutcome}
 use Rattle.cut_certificate.specs.declared.chains.Chain.{Chain}
 use Rattle.cut_certificate.specs.Chain.{AreSized}
-use Rattle.sample_run.specs.HourNetwork.{shape_of}
+use Rattle.sample_run.specs.HourNetwork.{shape_of, AreLinks}
 use Rattle.sample_run.specs.declared.up_sums.UpSums.{UpSums}
 use Rattle.sample_run.specs.UpSums.{AreSums}
 
@@ -33,5 +33,6 @@ pub record IsKept (system : SystemParts) (standing : Standing) (sums : UpSums) (
   pub storages : holdings.system ≡ system
   pub held : length holdings.energies ≡ storage_count system
   pub shape : network.shape ≡ shape_of system
+  pub links : AreLinks system (is_up_at standing) network
   pub dispatches : dispatcher ≡ shape_of system
   pub sizes : AreSized network outcome chain

@@ -32,3 +32,8 @@ pub record AreSums (system : SystemParts) (up : NumberSet) (sums : UpSums) : Typ
       → interface < interface_count system
       → slice_index sums.backward interface ≡ up_lines_sum system up (λ line. line.backward) interface
   pub counts : (interface : ℕ) → interface < interface_count system → slice_index sums.lines interface ≡ lines_count system interface
+
+-- what each interface's lines carry together is the same in both
+pub record CarrySame (before after : UpSums) : Type 0 where
+  pub forward : after.forward ≡ before.forward
+  pub backward : after.backward ≡ before.backward

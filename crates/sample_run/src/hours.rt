@@ -7,7 +7,7 @@ ghost use Rattle.sample_run.specs.UpSums.{AreSums};
 ghost use Rattle.sample_run.specs.Run.{energies_after};
 
 use crate::both::both;
-use crate::network::set_hour;
+use crate::network::{follow, set_hour, set_links};
 use crate::shapes::shape_of;
 use crate::up_sums::UpSums;
 use cut_certificate::Chain;
@@ -77,8 +77,9 @@ impl<'a> Hours<'a> {
         );
         let (held, (means, results)) = both(held, both(means, results))?;
         let ((chronology, sums), storages) = held;
-        let (network, dispatcher) = means;
+        let (mut network, dispatcher) = means;
         let (chain, outcome) = results;
+        set_links(&mut network, system, &chronology, &sums);
         Ok(Hours {
             system,
             chronology,
@@ -115,6 +116,7 @@ impl<'a> Hours<'a> {
         self.sums.return_all(self.system, &self.chronology);
         self.chronology.start(sample);
         self.sums.follow(self.system, &self.chronology);
+        set_links(&mut self.network, self.system, &self.chronology, &self.sums);
         self.storages.reset();
         self.work_out();
     }
@@ -135,7 +137,12 @@ impl<'a> Hours<'a> {
         } }
     {
         self.chronology.step();
-        self.sums.follow(self.system, &self.chronology);
+        follow(
+            &mut self.sums,
+            &mut self.network,
+            self.system,
+            &self.chronology,
+        );
         self.storages.carry();
         self.work_out();
     }

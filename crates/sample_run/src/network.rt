@@ -1,9 +1,9 @@
 ghost use Rattle.std.specs.Prelude.{◌≡◌, ◌==◌, min, map, if◌then◌else◌};
 ghost use Rattle.std.specs.List.{range_with_len};
-ghost use Rattle.system_model.specs.System.{zone_count, interface_count, storage_count, hourly_load};
-ghost use Rattle.outage_chronology.specs.Standing.{is_up_at};
+ghost use Rattle.system_model.specs.System.{zone_count, storage_count, hourly_load};
+ghost use Rattle.outage_chronology.specs.Standing.{is_up_at, was_up_at};
 ghost use Rattle.sample_run.specs.UpSums.{AreSums};
-ghost use Rattle.sample_run.specs.HourNetwork.{shape_of, network_of, zone_supply, forward_limit, backward_limit, device_caps};
+ghost use Rattle.sample_run.specs.HourNetwork.{shape_of, network_of, zone_supply, device_caps, AreLinks};
 
 use crate::up_sums::UpSums;
 use outage_chronology::Chronology;
@@ -11,8 +11,8 @@ use storage_state::Storages;
 use system_model::System;
 use zone_network::Network;
 
-/// Sets a network to that of the hour where the chronology stands, by the sums over what is up then and by
-/// what the storages hold. It takes no memory.
+/// Sets a network whose links are those of the hour where the chronology stands to that of the hour, by the
+/// sums over what is up then and by what the storages hold. It takes no memory.
 pub(crate) fn set_hour(
     net: &mut Network,
     system: &System,
@@ -24,12 +24,33 @@ pub(crate) fn set_hour(
     requires chronology { chronology.now.system ≡ system.now }
     requires storages { storages.now.system ≡ system.now }
     requires sums { AreSums system.now (is_up_at chronology.now) sums.now }
+    requires links { AreLinks system.now (is_up_at chronology.now) net.old }
     ensures { net.new ≡ network_of system.now (is_up_at chronology.now) storages.now.energies
         chronology.now.hour }
 {
     set_zones(net, system, chronology, sums);
-    set_links(net, system, chronology, sums);
     set_devices(net, system, chronology, storages);
+}
+
+/// Goes on to the hour where the chronology stands with the sums, and with the links where a line went out or
+/// came back.
+pub(crate) fn follow(
+    sums: &mut UpSums,
+    net: &mut Network,
+    system: &System,
+    chronology: &Chronology<'_>,
+)
+    requires shape { net.old.shape ≡ shape_of system.now }
+    requires chronology { chronology.now.system ≡ system.now }
+    requires sums { AreSums system.now (was_up_at chronology.now) sums.old }
+    requires links { AreLinks system.now (was_up_at chronology.now) net.old }
+    ensures sums { AreSums system.now (is_up_at chronology.now) sums.new }
+    ensures links { AreLinks system.now (is_up_at chronology.now) net.new }
+    ensures shape { net.new.shape ≡ net.old.shape }
+{
+    if sums.follow(system, chronology) {
+        set_links(net, system, chronology, sums);
+    }
 }
 
 /// Sets what each zone has and what it asks.
@@ -53,15 +74,15 @@ fn set_zones(net: &mut Network, system: &System, chronology: &Chronology<'_>, su
 }
 
 /// Sets what each link carries.
-fn set_links(net: &mut Network, system: &System, chronology: &Chronology<'_>, sums: &UpSums)
+pub(crate) fn set_links(
+    net: &mut Network,
+    system: &System,
+    chronology: &Chronology<'_>,
+    sums: &UpSums,
+)
     requires shape { net.old.shape ≡ shape_of system.now }
     requires sums { AreSums system.now (is_up_at chronology.now) sums.now }
-    ensures forwards { net.new.forwards ≡
-        map (forward_limit system.now (is_up_at chronology.now))
-        (range_with_len 0 (interface_count system.now)) }
-    ensures backwards { net.new.backwards ≡
-        map (backward_limit system.now (is_up_at chronology.now))
-        (range_with_len 0 (interface_count system.now)) }
+    ensures links { AreLinks system.now (is_up_at chronology.now) net.new }
     ensures rest { net.new ≡ record net.old { forwards = net.new.forwards; backwards = net.new.backwards } }
 {
     for link in 0..net.links() {

@@ -4,7 +4,7 @@ ghost use Rattle.outage_chronology.specs.Outages.{component_count as count_of};
 ghost use Rattle.outage_chronology.specs.Standing.{is_up_at, was_up_at};
 ghost use Rattle.system_model.specs.System.{interface_count};
 ghost use Rattle.sample_run.specs.HourNetwork.{lines_count};
-ghost use Rattle.sample_run.specs.UpSums.{AreSums, with_state, all_up, none_up};
+ghost use Rattle.sample_run.specs.UpSums.{AreSums, CarrySame, with_state, all_up, none_up};
 
 use outage_chronology::Chronology;
 use ra_base::{Amounts, OutOfMemory};
@@ -66,34 +66,43 @@ impl UpSums {
         }
     }
 
-    /// Goes on to the hour where the chronology stands, from sums over what was up before it.
-    pub fn follow(&mut self, system: &System, chronology: &Chronology<'_>)
+    /// Goes on to the hour where the chronology stands, from sums over what was up before it, and says whether
+    /// a line went out or came back.
+    pub fn follow(&mut self, system: &System, chronology: &Chronology<'_>) -> bool
         requires system { chronology.now.system ≡ system.now }
         requires sums { AreSums system.now (was_up_at chronology.now) self.old }
-        ensures { AreSums system.now (is_up_at chronology.now) self.new }
+        ensures sums { AreSums system.now (is_up_at chronology.now) self.new }
+        ensures lines { result ≡ false → CarrySame self.old self.new }
     {
+        let mut lines = false;
         for component in chronology.changed() {
-            self.turn(system, *component, chronology.is_up(*component));
+            lines |= self.turn(system, *component, chronology.is_up(*component));
         }
+        lines
     }
 
-    /// Adds a component that comes back, or takes away one that goes out.
-    fn turn(&mut self, system: &System, component: u32, up: bool)
+    /// Adds a component that comes back, or takes away one that goes out, and says whether it is a line.
+    fn turn(&mut self, system: &System, component: u32, up: bool) -> bool
         requires component { component < count_of system.now }
         requires turns { (before : NumberSet) × AreSums system.now before self.old
             × (before component ≡ not up) }
-        ensures { (before : NumberSet) → AreSums system.now before self.old → before component ≡ not up
+        ensures sums { (before : NumberSet) → AreSums system.now before self.old → before component ≡ not up
             → AreSums system.now (with_state before component up) self.new }
+        ensures lines { result ≡ false → CarrySame self.old self.new }
     {
         let storages = system.units();
         let lines = storages + system.storages();
         if component < storages {
             let unit = system.unit(component);
             turn_at(&mut self.units, unit.zone, unit.capacity, up);
+            false
         } else if component >= lines {
             let line = system.line(component - lines);
             turn_at(&mut self.forward, line.interface, line.forward, up);
             turn_at(&mut self.backward, line.interface, line.backward, up);
+            true
+        } else {
+            false
         }
     }
 }

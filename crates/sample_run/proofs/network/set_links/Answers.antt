@@ -10,15 +10,18 @@ use Rattle.sample_run.proofs.NetworkSteps.{linked-more}
 use Rattle.sample_run.specs.HourNetwork.{link_of, forward_limit, backward_limit}
 use Rattle.sample_run.proofs.network.set_links.Goals as goal
 
-pub returns-clause-forwards : goal.returns-clause-forwards
-returns-clause-forwards c =
-    fill_by_all (forward_limit c.args.system.now (is_up_at c.args.chronology.now)) c.loop-link.net.forwards (interface_count c.args.system.now) 0 c.loop-link.invariant.forwards_size
-    (λ i below. c.loop-link.invariant.forwards i (omega (arith, c.loop-link-test.false, c.loop-link.auto.link-end, c.links-link-end.ensures.count, ap link_count c.requires.shape, length-map c.args.system.now.interfaces link_of)))
-
-pub returns-clause-backwards : goal.returns-clause-backwards
-returns-clause-backwards c =
-    fill_by_all (backward_limit c.args.system.now (is_up_at c.args.chronology.now)) c.loop-link.net.backwards (interface_count c.args.system.now) 0 c.loop-link.invariant.backwards_size
-    (λ i below. c.loop-link.invariant.backwards i (omega (arith, c.loop-link-test.false, c.loop-link.auto.link-end, c.links-link-end.ensures.count, ap link_count c.requires.shape, length-map c.args.system.now.interfaces link_of)))
+pub returns-clause-links : goal.returns-clause-links
+returns-clause-links c =
+    let all : (i : ℕ) → i < interface_count c.args.system.now → i < c.loop-link.link =
+    λ i below. omega (arith, c.loop-link-test.false, c.loop-link.auto.link-end, c.links-link-end.ensures.count, ap link_count c.requires.shape, length-map c.args.system.now.interfaces link_of) in
+    record {
+      forwards =
+          fill_by_all (forward_limit c.args.system.now (is_up_at c.args.chronology.now)) c.loop-link.net.forwards (interface_count c.args.system.now) 0 c.loop-link.invariant.forwards_size
+          (λ i below. c.loop-link.invariant.forwards i (all i below));
+      backwards =
+          fill_by_all (backward_limit c.args.system.now (is_up_at c.args.chronology.now)) c.loop-link.net.backwards (interface_count c.args.system.now) 0 c.loop-link.invariant.backwards_size
+          (λ i below. c.loop-link.invariant.backwards i (all i below));
+    }
 
 pub loop-link-preserved : goal.loop-link-preserved
 loop-link-preserved c =

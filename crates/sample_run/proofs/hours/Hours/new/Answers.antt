@@ -33,11 +33,12 @@ invariant_of-result c =
     let outcome : c.new-5.result ≡ Ok made.results.1 =
     answered c.both-results.result made.results (λ p. c.new-5.result ≡ Ok p.1) results c.both-results.ensures.second in
     let stands = answered c.up_at_first.result made.held.0 (λ u. u.0 ≡ record { system = system; seed = c.args.seed; sample = 0; hour = 0 }) up c.up_at_first.ensures.chronology in
-    kept-first system shape made.held.0.0 made.held.0.1 made.held.1 made.means.0 made.means.1 made.results.1 made.results.0 zones devices c.in_ok-shape.ensures
+    kept-first system shape made.held.0.0 made.held.0.1 made.held.1 made.means.0 c.set_links.new.net made.means.1 made.results.1 made.results.0 zones devices c.in_ok-shape.ensures
     (ap (λ (s : Standing). s.system) stands)
     (answered c.up_at_first.result made.held.0 (λ u. AreSums system (is_up_at u.0) u.1) up c.up_at_first.ensures.sums)
     (answered c.new.result made.held.1 (λ (h : Holdings). h ≡ record { system = system; energies = start_energies system }) storages c.new.ensures)
     (answered c.new-2.result made.means.0 (λ (n : NetworkParts). n ≡ empty_network shape) network c.new-2.ensures)
+    c.set_links.ensures.rest c.set_links.ensures.links
     (answered c.new-3.result made.means.1 (λ (s : ShapeParts). s ≡ shape) dispatcher c.new-3.ensures)
     (answered c.new-4.result made.results.0 (λ (it : Chain). it ≡ empty_chain shape) chain c.new-4.ensures)
     c.zones.ensures.count c.devices.ensures.count

@@ -6,7 +6,7 @@ use Rattle.system_model.specs.System.{SystemParts}
 use Rattle.sample_totals.specs.declared.outcomes.HourOutcome.{HourOutcome}
 use Rattle.sample_run.specs.Run.{IsHour}
 use Rattle.sample_run.specs.Moments.{Moment}
-use Rattle.sample_run.proofs.HoursLemmas.{network-shape, sized-again, within-caps, kept-again, hour-made}
+use Rattle.sample_run.proofs.HoursLemmas.{network-shape, network-links, sized-again, within-caps, kept-again, hour-made}
 use Rattle.sample_run.proofs.hours.Hours.work_out.Goals as goal
 
 pub best-requires-clause-shape : goal.best-requires-clause-shape
@@ -31,6 +31,7 @@ invariant_of-self c =
     kept-again c.self.inside.system.now c.self.inside.chronology c.self.inside.sums c.self.inside.storages c.apply.new.storages c.set_hour.new.net c.best.new.self
     c.best.new.outcome c.apply.new.energy c.best.new.chain c.self.invariant.chronology c.self.invariant.kept_sums c.self.invariant.storages
     (ap (λ (n : NetworkParts). n.shape) c.set_hour.ensures ∙ network-shape c.self.inside.system.now (is_up_at c.self.inside.chronology) c.self.inside.storages.energies c.self.inside.chronology.hour)
+    (rw c.set_hour.ensures (network-links c.self.inside.system.now (is_up_at c.self.inside.chronology) c.self.inside.storages.energies c.self.inside.chronology.hour))
     c.best.ensures.shape c.best.ensures.fit c.apply.ensures.energies c.apply.ensures.storages
 
 pub returns-clause-hour : goal.returns-clause-hour

@@ -5,7 +5,7 @@ use Rattle.sample_run.proofs.up_sums.UpSums.add_all.Goals as goal
 pub loop-component-preserved : goal.loop-component-preserved
 loop-component-preserved c =
     added-more c.args.system.now c.turn.new.self c.loop-component.component
-    (c.turn.ensures (first c.loop-component.component) c.loop-component.invariant (not-first c.loop-component.component))
+    (c.turn.ensures.sums (first c.loop-component.component) c.loop-component.invariant (not-first c.loop-component.component))
 
 pub returns : goal.returns
 returns c =

@@ -13,7 +13,7 @@ loop-component-preserved c =
     elim c.if-not-is_up.branch [
       | then-not-is_up w ↦
           subst (λ (s : UpSums). AreSums c.args.system.now (first_or up (component + 1)) s) (sym w.self-is)
-          (returned-more c.args.system.now up w.turn.new.self component (w.turn.ensures (first_or up component) c.loop-component.invariant
+          (returned-more c.args.system.now up w.turn.new.self component (w.turn.ensures.sums (first_or up component) c.loop-component.invariant
           (not-returned up component (sym c.is_up.ensures ∙ w.if-not-is_up.true))))
       | else-not-is_up w ↦
           subst (λ (s : UpSums). AreSums c.args.system.now (first_or up (component + 1)) s) (sym w.self-is)

@@ -73,16 +73,16 @@ turn_at-requires-then-component-lines-2-clause-there c =
       ap (λ (l : Line). l.backward) c.line-line.ensures.value,
     )
 
-pub returns-then-component-storages : goal.returns-then-component-storages
-returns-then-component-storages c =
+pub returns-then-component-storages-clause-sums : goal.returns-then-component-storages-clause-sums
+returns-then-component-storages-clause-sums c =
     λ before are was.
     turned-unit c.args.system.now before c.args.self.now (record c.args.self.now { units = c.turn_at.new.amounts }) c.args.component c.unit-unit.result.zone c.unit-unit.result.capacity c.args.up
     (omega (arith, c.if-component-storages.true, c.units-storages.ensures.count)) (ap (λ (u : UnitPart). u.zone) c.unit-unit.ensures.value) c.unit-unit.ensures.range.zone
     (ap (λ (u : UnitPart). u.capacity) c.unit-unit.ensures.value)
     (ap (λ (xs : List ℕ). record c.args.self.now { units = xs }) c.turn_at.ensures) are was
 
-pub returns-then-component-lines : goal.returns-then-component-lines
-returns-then-component-lines c =
+pub returns-then-component-lines-clause-sums : goal.returns-then-component-lines-clause-sums
+returns-then-component-lines-clause-sums c =
     let system = c.args.system.now in
     let old = c.args.self.now in
     let line = c.args.component - (c.units-storages.result + c.storages.result) in
@@ -99,8 +99,8 @@ returns-then-component-lines c =
     }) c.turn_at-then-component-lines-2.ensures)
     are was
 
-pub returns-else-component-lines : goal.returns-else-component-lines
-returns-else-component-lines c =
+pub returns-else-component-lines-clause-sums : goal.returns-else-component-lines-clause-sums
+returns-else-component-lines-clause-sums c =
     λ before are was.
     turned-storage c.args.system.now before c.args.self.now c.args.component c.args.up
     (omega (arith, c.if-component-storages.false, c.units-storages.ensures.count)) (omega (arith, c.if-component-lines.false, c.units-storages.ensures.count, c.storages.ensures.count)) are
