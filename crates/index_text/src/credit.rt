@@ -21,7 +21,7 @@ pub fn put_bracket(
 {
     let mut text = out.fresh();
     put_lines(&mut text, kind, measure, bracket)?;
-    out.push(text.bytes())
+    out.append(text)
 }
 
 #[tactic(auto, unfolding(crate::specs::CreditText::bracket_text))]

@@ -20,7 +20,7 @@ pub fn put_index(out: &mut Text, analysis: &Analysis) -> Result<(), OutOfMemory>
     let mut text = out.fresh();
     put_head(&mut text, analysis)?;
     put_hours(&mut text, analysis)?;
-    out.push(text.bytes())
+    out.append(text)
 }
 
 // What stands before the hours.

@@ -27,7 +27,7 @@ pub fn put_table(out: &mut Text, table: &OutageTable) -> Result<(), OutOfMemory>
     put_whole(&mut text, u128::from(table.total()))?;
     text.push(b"\n")?;
     put_outages(&mut text, table)?;
-    out.push(text.bytes())
+    out.append(text)
 }
 
 #[tactic(auto, using(decimal_text::proofs::Growing::text_steps))]

@@ -12,6 +12,12 @@ fn texts_and_amounts(rt: HostRuntime) -> Result<(), Fail> {
     assert_eq!(rt; text.fresh().bytes().len(), 0);
     text.push_three(b"", b" hours", b"\n")?;
     assert_eq!(rt; text.bytes(), b"LOLE 2.4 hours\n".as_slice());
+    let mut report = text.fresh();
+    let mut second = text.fresh();
+    second.push(b"EUE 9\n")?;
+    report.append(text)?;
+    report.append(second)?;
+    assert_eq!(rt; report.bytes(), b"LOLE 2.4 hours\nEUE 9\n".as_slice());
     let mut amounts = Amounts::zeros(rt.alloc(), 3)?;
     assert_eq!(rt; amounts.len(), 3);
     assert!(rt; !amounts.is_empty());

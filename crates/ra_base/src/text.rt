@@ -48,6 +48,19 @@ impl Text {
         }
     }
 
+    /// Appends a whole text. Where this one is empty, it takes over the other's memory and copies nothing.
+    /// Without memory the text stays as it was.
+    pub fn append(&mut self, more: Text) -> Result<(), OutOfMemory>
+        ensures ok { OnOk result (self.new ≡ self.old ++ more) }
+        ensures err { OnErr result (self.new ≡ self.old) }
+    {
+        if self.bytes.is_empty() {
+            *self = more;
+            return Ok(());
+        }
+        self.push(&more.bytes)
+    }
+
     /// Appends three pieces, or without memory none of them.
     pub fn push_three(
         &mut self,

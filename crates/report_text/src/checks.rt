@@ -24,7 +24,7 @@ pub fn put_check(
     put_further(&mut text, system)?;
     put_peak(&mut text, system, peak_mw, peak_hour)?;
     text.push(b"\n")?;
-    out.push(text.bytes())
+    out.append(text)
 }
 
 // How many zones, units and interfaces there are.

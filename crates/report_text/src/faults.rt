@@ -39,7 +39,7 @@ pub fn put_table_fault(out: &mut Text, fault: &TableFault) -> Result<(), OutOfMe
 {
     let mut text = out.fresh();
     put_fault(&mut text, fault)?;
-    out.push(text.bytes())
+    out.append(text)
 }
 
 // The same, where the text is given up by the caller if memory isn't found.

@@ -18,7 +18,7 @@ pub fn put_gate(out: &mut Text, gate: Gate) -> Result<(), OutOfMemory>
 {
     let mut text = out.fresh();
     put_gate_line(&mut text, gate)?;
-    out.push(text.bytes())
+    out.append(text)
 }
 
 /// Appends an interim report: the line of the gate, the runs of the samples that were deposited, and the text
@@ -40,7 +40,7 @@ pub fn put_interim(
     put_gate_line(&mut text, gate)?;
     put_ranges(&mut text, runs)?;
     put_totals(&mut text, system, totals)?;
-    out.push(text.bytes())
+    out.append(text)
 }
 
 // The line of a gate, where the text is given up by the caller if memory isn't found.

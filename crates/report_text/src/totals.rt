@@ -29,7 +29,7 @@ pub fn put_totals(out: &mut Text, system: &System, totals: &Totals) -> Result<()
     if totals.samples() > 0 {
         put_sum_lines(&mut text, system, totals)?;
     }
-    out.push(text.bytes())
+    out.append(text)
 }
 
 // The lines of the sums. Where memory isn't found the text is given up by the caller.
