@@ -1,11 +1,10 @@
 -- How masks go on, step by step.
-use Rattle.std.proofs.Common.{◌≡◌, ℕ, zero, suc, add-one, ◌+◌, ◌<◌, ◌≤◌, inl, inr, Bool, true, false, List, [], ◌∷◌, ◌++◌, length, get_or, filter, bit_or, refl, ap, sym, ◌∙◌, subst, arith}
+use Rattle.std.proofs.Common.{◌≡◌, ℕ, zero, suc, add-one, ◌+◌, ◌-◌, ◌<◌, ◌≤◌, inl, inr, Bool, true, false, List, [], ◌∷◌, ◌++◌, ◌&&◌, length, take, drop, get_or, get_or-take, get_or-drop, filter, refl, ap, sym, ◌∙◌, subst, arith}
 use Rattle.std.specs.Prelude.{slice_set}
 use Rattle.std.specs.List.{range_with_len}
-use Rattle.std.proofs.lemmas.List.{get_or-set_same, get_or-set_other, length-append}
-use Rattle.std.proofs.lemmas.Nat.{le_or_l, le_or_r}
+use Rattle.std.proofs.lemmas.List.{get_or-set_same, get_or-set_other, length-append, length-take-le, length-drop}
 use Rattle.std.specs.Int.{w32, bit_not}
-use Rattle.std.proofs.lemmas.Bool.{cases_eq}
+use Rattle.std.proofs.lemmas.Bool.{cases_eq, cases_lt, false≢true}
 use Rattle.outage_chronology.specs.Masks.{up_mask, says_up, is_below, threshold_of, AreOfStates, turns, turned}
 use Rattle.outage_chronology.proofs.Passing.{passing_pushed, passing_same}
 
@@ -13,25 +12,51 @@ pub says-mask : (up : Bool) → says_up (up_mask up) ≡ up
 says-mask true = refl
 says-mask false = refl
 
--- no word so far is below its threshold, where nothing was gathered
-abbrev pub NoneBelow : List ℕ → List ℕ → ℕ → ℕ → Type 0
-NoneBelow words thresholds any count = any ≡ 0 → (k : ℕ) → k < count → is_below (get_or words k 0) (get_or thresholds k 0) ≡ false
+-- no word so far is below its threshold, where all are above theirs
+abbrev pub NoneBelow : List ℕ → List ℕ → Bool → ℕ → Type 0
+NoneBelow words thresholds all count = all ≡ true → (k : ℕ) → k < count → is_below (get_or words k 0) (get_or thresholds k 0) ≡ false
 
-pub none-more : (words thresholds : List ℕ) (any at mask : ℕ)
-    → (mask ≡ 0 → is_below (get_or words at 0) (get_or thresholds at 0) ≡ false)
-    → NoneBelow words thresholds any at
-    → NoneBelow words thresholds (bit_or any mask) (at + 1)
-none-more words thresholds any at mask not_here so_far zero_now k below =
+pub none-more : (words thresholds : List ℕ) (all here : Bool) (at : ℕ)
+    → (here ≡ true → is_below (get_or words at 0) (get_or thresholds at 0) ≡ false)
+    → NoneBelow words thresholds all at
+    → NoneBelow words thresholds (all && here) (at + 1)
+none-more words thresholds true here at not_here so_far all_now k below =
     elim (cases_eq k at) [
-      | inl here ↦ ap (λ (j : ℕ). is_below (get_or words j 0) (get_or thresholds j 0)) here ∙ not_here (or-right any mask zero_now)
-      | inr other ↦ so_far (or-left any mask zero_now) k (omega arith)
+      | inl now ↦ ap (λ (j : ℕ). is_below (get_or words j 0) (get_or thresholds j 0)) now ∙ not_here all_now
+      | inr other ↦ so_far refl k (omega arith)
     ]
-  where
-    or-left : (a b : ℕ) → bit_or a b ≡ 0 → a ≡ 0
-    or-left a b e = omega (arith, e, le_or_l a b)
+none-more words thresholds false here at not_here so_far all_now k below = absurd (false≢true all_now)
 
-    or-right : (a b : ℕ) → bit_or a b ≡ 0 → b ≡ 0
-    or-right a b e = omega (arith, e, le_or_r a b)
+-- a number of a slice is one of the list
+pub of-slice : (xs : List ℕ) (from to k : ℕ) → from ≤ k → k < to → get_or (take (to - from) (drop from xs)) (k - from) 0 ≡ get_or xs k 0
+of-slice xs from to k past below =
+    let at : from + (k - from) ≡ k = omega arith in
+    get_or-take {A = ℕ} (to - from) (drop from xs) (k - from) 0 (omega arith) ∙ get_or-drop {A = ℕ} from xs (k - from) 0 ∙ ap (λ i. get_or xs i 0) at
+
+-- a slice from a place on
+abbrev rest_of : List ℕ → ℕ → List ℕ
+rest_of xs from = take (length xs - from) (drop from xs)
+
+-- where no word of the first so many is below its threshold, and none of the last, which begin no later, none is
+pub none-of-both : (words thresholds : List ℕ) (whole last : ℕ)
+    → length thresholds ≡ length words
+    → whole ≤ length words
+    → last ≤ whole
+    → ((k : ℕ) → k < length (take whole words) → is_below (get_or (take whole words) k 0) (get_or (take whole thresholds) k 0) ≡ false)
+    → ((k : ℕ) → k < length (rest_of words last) → is_below (get_or (rest_of words last) k 0) (get_or (rest_of thresholds last) k 0) ≡ false)
+    → (k : ℕ)
+    → k < length words
+    → is_below (get_or words k 0) (get_or thresholds k 0) ≡ false
+none-of-both words thresholds whole last sizes most before first rest k below =
+    elim (cases_lt k whole) [
+      | inl early ↦
+          rw (sym (get_or-take {A = ℕ} whole words k 0 early), sym (get_or-take {A = ℕ} whole thresholds k 0 early))
+          (first k (omega (arith, early, length-take-le whole words most)))
+      | inr late ↦
+          let size = length-take-le (length words - last) (drop last words) (omega (arith, length-drop last words)) in
+          rw (sym (of-slice words last (length words) k (omega arith) below), sym (of-slice thresholds last (length thresholds) k (omega arith) (omega (arith, sizes))))
+          (rest (k - last) (omega (arith, size)))
+    ]
 
 -- the thresholds are set one by one
 pub states-more : (masks fails repairs thresholds : List ℕ) (at value : ℕ)

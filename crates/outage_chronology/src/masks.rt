@@ -1,4 +1,4 @@
-ghost use Rattle.std.specs.Prelude.{◌≡◌, ℕ, ◌<◌, ◌≤◌, [], filter, length, slice_index, vec_capacity, true, false};
+ghost use Rattle.std.specs.Prelude.{◌≡◌, ℕ, ◌<◌, ◌≤◌, IsTrue, [], filter, length, slice_index, vec_capacity, true, false};
 ghost use Rattle.std.specs.List.{range_with_len};
 ghost use Rattle.outage_chronology.specs.Masks.{up_mask, says_up, IsMask, is_below, turns, next_state, threshold_of, AreOfStates};
 
@@ -16,32 +16,50 @@ fn is_below(word: u32, threshold: u32) -> bool
     word.min(LAST_WORD) < threshold
 }
 
-/// All ones where a word may be below a threshold, and 0 only where it isn't.
+/// Whether a word is above a threshold, as far as their halves tell: a word just above it counts as not.
 #[inline]
-fn may_be_below(word: u32, threshold: u32) -> u32
-    ensures { result ≡ 0 → is_below word threshold ≡ false }
+fn is_above(word: u32, threshold: u32) -> bool
+    ensures { IsTrue result → is_below word threshold ≡ false }
 {
-    // The greatest word, which is compared as the one below it, wraps to 0 here: it always may be.
-    if word.wrapping_add(1) <= threshold {
-        u32::MAX
-    } else {
-        0
-    }
+    // Halves have no first bit, and so are compared as signed numbers, which is what processors do with many
+    // at once.
+    word >> 1 > threshold >> 1
 }
+
+/// Whether all words are above their thresholds, as far as halves tell.
+#[inline]
+fn are_above(words: &[u32], thresholds: &[u32]) -> bool
+    requires { length thresholds.now ≡ length words.now }
+    ensures { IsTrue result → (k : ℕ) → k < length words.now
+        → is_below (slice_index words.now k) (slice_index thresholds.now k) ≡ false }
+{
+    // No branch: what a word decides can't be foretold, and most hours decide nothing.
+    let mut all = true;
+    for at in 0..words.len() {
+        all &= is_above(words[at], thresholds[at]);
+    }
+    all
+}
+
+/// So many words are compared at once.
+const AT_ONCE: usize = 8;
 
 /// Whether some word may be below its threshold.
 #[inline]
 fn any_below(words: &[u32], thresholds: &[u32]) -> bool
     requires { length thresholds.now ≡ length words.now }
-    ensures none { result ≡ false → (k : ℕ) → k < length words.now
+    ensures { result ≡ false → (k : ℕ) → k < length words.now
         → is_below (slice_index words.now k) (slice_index thresholds.now k) ≡ false }
 {
-    // Masks and no branch: what a word decides can't be foretold, and most hours decide nothing.
-    let mut any = 0;
-    for at in 0..words.len() {
-        any |= may_be_below(words[at], thresholds[at]);
+    let count = words.len();
+    if count < AT_ONCE {
+        return !are_above(words, thresholds);
     }
-    any != 0
+    // The last few are compared together with some before them, so that none is compared alone.
+    let whole = count - count % AT_ONCE;
+    let last = count - AT_ONCE;
+    !are_above(&words[..whole], &thresholds[..whole])
+        || !are_above(&words[last..], &thresholds[last..])
 }
 
 /// The threshold below which a word changes a state: that of failure where the mask says up, else that of

@@ -1,5 +1,9 @@
-use Rattle.outage_chronology.proofs.MaskSteps.{none-more}
+use Rattle.std.proofs.Common.{◌-◌, ◌%◌, length, arith}
+use Rattle.std.proofs.lemmas.Bool.{not-false}
+use Rattle.outage_chronology.proofs.MaskSteps.{none-of-both}
 use Rattle.outage_chronology.proofs.masks.any_below.Goals as goal
 
-pub loop-at-preserved : goal.loop-at-preserved
-loop-at-preserved c = none-more c.args.words.now c.args.thresholds.now c.loop-at.any c.loop-at.at c.may_be_below-any.result c.may_be_below-any.ensures c.loop-at.invariant
+pub returns-else-not-are_above : goal.returns-else-not-are_above
+returns-else-not-are_above c none =
+    let count = length c.args.words.now in
+    none-of-both c.args.words.now c.args.thresholds.now (count - count % 8) (count - 8) c.requires (omega arith) (omega (arith, c.if-count-lt-AT_ONCE.false)) (c.are_above-2.ensures c.if-not-are_above.false) (c.are_above-else-not-are_above.ensures (not-false _ none))

@@ -1,9 +1,9 @@
-use Rattle.std.proofs.Common.{arith, false, ◌≡◌, ◌≤◌, ◌<◌, ◌++◌, ◌∷◌, [], ◌+◌, ◌-◌, length, take, drop, get_or, get_or-take, get_or-drop, refl, ap, sym, ◌∙◌, List, ℕ}
+use Rattle.std.proofs.Common.{arith, false, ◌≡◌, ◌≤◌, ◌<◌, ◌++◌, ◌∷◌, [], ◌+◌, ◌-◌, length, take, drop, get_or, refl, ap, sym, ◌∙◌, List, ℕ}
 use Rattle.std.proofs.lemmas.List.{length-take-le, length-drop}
 use Rattle.std.specs.Prelude.{slice_set, vec_capacity}
 use Rattle.std.specs.Int.{w32, bit_not}
 use Rattle.outage_chronology.specs.Masks.{is_below}
-use Rattle.outage_chronology.proofs.MaskSteps.{Given, turned-stays, turned-lot, turned-changes, turns-by, turns_at, turned-none}
+use Rattle.outage_chronology.proofs.MaskSteps.{Given, of-slice, turned-stays, turned-lot, turned-changes, turns-by, turns_at, turned-none}
 use Rattle.outage_chronology.proofs.masks.go_on.Goals as goal
 use Rattle.outage_chronology.proofs.masks.go_on.Goals.{then-is_below, else-is_below, then-any_below, else-any_below}
 
@@ -43,12 +43,6 @@ loop-at-preserved c =
           }
     ]
 
--- a number of a slice is one of the list
-of-slice : (xs : List ℕ) (from to k : ℕ) → from ≤ k → k < to → get_or (take (to - from) (drop from xs)) (k - from) 0 ≡ get_or xs k 0
-of-slice xs from to k past below =
-    let at : from + (k - from) ≡ k = omega arith in
-    get_or-take {A = ℕ} (to - from) (drop from xs) (k - from) 0 (omega arith) ∙ get_or-drop {A = ℕ} from xs (k - from) 0 ∙ ap (λ i. get_or xs i 0) at
-
 pub loop-from-preserved : goal.loop-from-preserved
 loop-from-preserved c =
     let from = c.loop-from.from in
@@ -66,7 +60,7 @@ loop-from-preserved c =
     ∙ ap (λ (t : ℕ). is_below (get_or g.words k 0) t) (sym (far.thresholds_rest k past))
     ∙ ap (λ (t : ℕ). is_below (get_or g.words k 0) t) (sym (of-slice c.loop-from.thresholds from to k past below))
     ∙ ap (λ (w : ℕ). is_below w (get_or (take (to - from) (drop from c.loop-from.thresholds)) (k - from) 0)) (sym (of-slice g.words from to k past below))
-    ∙ c.any_below-in-loop-from.ensures.none c.if-any_below-2.false (k - from) (omega (arith, size)) in
+    ∙ c.any_below-in-loop-from.ensures c.if-any_below-2.false (k - from) (omega (arith, size)) in
     record {
       within = most;
       far = turned-lot g old c.loop-from.masks c.loop-from.thresholds c.loop-from.changed.items from to on stay (λ k below. c.requires.masks k (omega (arith, most))) (λ k below. c.requires.thresholds k (omega (arith, most))) far;
@@ -95,7 +89,7 @@ loop-from-init c =
         within = omega (arith, w.from-is);
         far =
             rw (w.from-is, c.clear.ensures.items)
-            (turned-lot g old g.before old [] 0 (length g.before) (omega arith) (stay (c.any_below.ensures.none w.if-any_below.false)) c.requires.masks c.requires.thresholds none);
+            (turned-lot g old g.before old [] 0 (length g.before) (omega arith) (stay (c.any_below.ensures w.if-any_below.false)) c.requires.masks c.requires.thresholds none);
         masks_stay = refl;
         thresholds_stay = refl;
         space = refl;
