@@ -1,21 +1,24 @@
-use Rattle.std.proofs.Common.{◌≡◌, ◌≢◌, ℕ, zero, suc, pos, ◌+◌, ◌<◌, ◌≤◌, ◌^◌, ◌==◌, inl, inr, true, List, length, get_or, refl, ap, sym, ◌∙◌, subst, arith}
+use Rattle.std.proofs.Common.{◌≡◌, ◌≢◌, ℕ, pos, ◌+◌, ◌<◌, ◌≤◌, ◌^◌, ◌==◌, inl, inr, true, List, length, get_or, refl, ap, sym, ◌∙◌, arith}
 use Rattle.std.specs.Prelude.{slice_set}
-use Rattle.std.proofs.lemmas.Bool.{cases_eq, cases_lt, cond-true, cond-false, eq-eqb, ne_eqb}
+use Rattle.std.proofs.lemmas.Bool.{cases_eq, cond-true, cond-false, eq-eqb, ne_eqb}
 use Rattle.std.proofs.lemmas.List.{get_or-set_same, get_or-set_other, get_or-replicate, length-set, length-replicate}
 use Rattle.std.proofs.lemmas.List.Elements.{All-from_get_or}
 use Rattle.std.proofs.lemmas.Nat.{pow_pos}
-use Rattle.zone_network.specs.Sums.{NumberSet, sum_where}
-use Rattle.zone_network.specs.Network.{NetworkParts, IsNetwork, zone_of_device, link_count, device_count, forward_of, backward_of, supply_at, load_at, charge_cap_at}
+use Rattle.zone_network.specs.Sums.{sum_where}
+use Rattle.zone_network.specs.Network.{NetworkParts, IsShape, zone_of_device, link_count, device_count, forward_of, backward_of, supply_at, load_at, charge_cap_at}
 use Rattle.zone_network.specs.Cut.{IsCut}
-use Rattle.zone_network.proofs.SumLemmas.{sum_where-zero, sum_where-suc, sum_where-more, sum_where-none}
+use Rattle.zone_network.proofs.SumLemmas.{sum_where-zero, sum_where-more, sum_where-none}
 use Rattle.transfer_flow.proofs.Laws.{flow_at_no_flow}
 use Rattle.sample_totals.specs.declared.outcomes.HourOutcome.{HourOutcome}
 use Rattle.cut_certificate.specs.declared.chains.Chain.{Chain}
-use Rattle.cut_certificate.specs.Chain.{AreSized, Fit, IsFeasibleBy, IsProvedBy, IsAccepted, all_unserved, flow_in}
+use Rattle.cut_certificate.specs.Chain.{Fit, IsFeasibleBy, IsProvedBy, IsOnlyBestOutcome, all_unserved, flow_in}
+use Rattle.cut_certificate.specs.Least.{IsLeastUnserved}
 use Rattle.hour_dispatch.specs.Stages.{set_count}
 use Rattle.hour_dispatch.specs.Ample.{IsAmple, AreNeeds, zeros, ample_outcome, ample_chain}
 use Rattle.hour_dispatch.proofs.StartLemmas.{still-in, still-out}
-use Rattle.hour_dispatch.proofs.CutLemmas.{served-cut}
+use Rattle.hour_dispatch.specs.Settled.{IsSettled}
+use Rattle.hour_dispatch.proofs.CutLemmas.{cut-least, served-cut}
+use Rattle.hour_dispatch.proofs.BestLemmas.{accepted-best}
 
 -- the charge caps that the first so many devices have in a zone
 abbrev pub caps_before : NetworkParts → ℕ → ℕ → ℕ
@@ -121,33 +124,12 @@ covered-device n needs needs' k zone need before below at is covers set =
           ];
     }
 
--- a sum over fewer numbers is no more
-sum-before : (p : NumberSet) (f : ℕ → ℕ) (m n : ℕ) → m ≤ n → sum_where p f m ≤ sum_where p f n
-sum-before p f m zero most = let none : m ≡ 0 = omega arith in omega (arith, ap (sum_where p f) none)
-sum-before p f m (suc n) most =
-    elim (cases_lt m (suc n)) [
-      | inl less ↦ omega (arith, sum-before p f m n (omega arith), sum_where-suc p f n)
-      | inr all ↦ let same : m ≡ suc n = omega arith in omega (arith, ap (sum_where p f) same)
-    ]
+-- what is covered so far is all, once every device is: the network is ample, and these are its needs
+pub covered-ample : (n : NetworkParts) (needs : List ℕ) → AreCovered n needs n.shape.zones (device_count n.shape) → IsAmple n
+covered-ample n needs h = record { covered = λ z below. omega (arith, h.each z below, h.covered z below) }
 
--- where a zone can't cover one device more, the network isn't ample
-pub short-device : (n : NetworkParts) (needs : List ℕ) (k zone : ℕ)
-    → AreCovered n needs n.shape.zones k
-    → k < device_count n.shape
-    → zone < n.shape.zones
-    → zone ≡ zone_of_device n.shape k
-    → supply_at n zone < get_or needs zone 0 + charge_cap_at n k
-    → ¬ IsAmple n
-short-device n needs k zone h among below at lacks ample =
-    omega (
-      arith,
-      ample.covered zone below,
-      h.each zone below,
-      sum-before (λ i. zone_of_device n.shape i == zone) (charge_cap_at n) (k + 1) (device_count n.shape) (omega arith),
-      sum_where-more (λ i. zone_of_device n.shape i == zone) (charge_cap_at n) k,
-      cond-true (zone_of_device n.shape k == zone) (charge_cap_at n k) 0
-          (eq-eqb (zone_of_device n.shape k) zone (sym at)),
-    )
+pub covered-needs : (n : NetworkParts) (needs : List ℕ) → AreCovered n needs n.shape.zones (device_count n.shape) → AreNeeds n needs
+covered-needs n needs h = record { size = h.size; each = h.each }
 
 zero-at : (count i : ℕ) → i < count → get_or (zeros count) i 0 ≡ 0
 zero-at count i below = get_or-replicate count i 0 0 below
@@ -155,8 +137,8 @@ zero-at count i below = get_or-replicate count i 0 0 below
 length-zeros : (count : ℕ) → length (zeros count) ≡ count
 length-zeros count = let none : ℕ = 0 in length-replicate count none
 
-no-flow : (n : NetworkParts) (chain : Chain) (l : ℕ) → flow_in (ample_chain n chain) l ≡ pos 0
-no-flow n chain l = flow_at_no_flow n.shape l
+no-flow : (n : NetworkParts) (needs : List ℕ) (l : ℕ) → flow_in (ample_chain n needs) l ≡ pos 0
+no-flow n needs l = flow_at_no_flow n.shape l
 
 -- nothing is unserved
 none-unserved : (n : NetworkParts) (outcome : HourOutcome) → all_unserved n (ample_outcome n outcome) ≡ 0
@@ -165,18 +147,21 @@ none-unserved n outcome =
     (λ z below at. zero-at n.shape.zones z below)
 
 -- what an ample hour comes to and its chain, where each zone generates what it needs
-module _ (n : NetworkParts) (outcome : HourOutcome) (chain : Chain) where
-  ample-fits : AreSized n outcome chain → IsNetwork n → Fit n (ample_outcome n outcome) (ample_chain n chain)
-  ample-fits sized valid =
+module _ (n : NetworkParts) (outcome : HourOutcome) (needs : List ℕ) where
+  ample-fits : length outcome.energy ≡ device_count n.shape
+      → length n.charge_caps ≡ device_count n.shape
+      → AreNeeds n needs
+      → Fit n (ample_outcome n outcome) (ample_chain n needs)
+  ample-fits energy caps are =
       record {
         sizes =
             record {
               unserved = length-zeros n.shape.zones;
               discharge = length-zeros (device_count n.shape);
-              charge = valid.charge_caps.size;
-              energy = sized.energy;
+              charge = caps;
+              energy = energy;
               flows = length-replicate (link_count n.shape) (pos 0);
-              generation = sized.generation;
+              generation = are.size;
               sets = length-zeros (set_count n.shape);
             };
         masks =
@@ -185,33 +170,33 @@ module _ (n : NetworkParts) (outcome : HourOutcome) (chain : Chain) where
             omega (arith, zero-at (set_count n.shape) i (omega (arith, length-zeros (set_count n.shape))), pow_pos n.shape.zones));
       }
 
-  ample-feasible : IsAmple n → AreNeeds n chain.generation → IsFeasibleBy n (ample_outcome n outcome) (ample_chain n chain)
-  ample-feasible ample needs =
+  ample-feasible : IsAmple n → AreNeeds n needs → IsFeasibleBy n (ample_outcome n outcome) (ample_chain n needs)
+  ample-feasible ample are =
       record {
         within = λ z below. omega (arith, zero-at n.shape.zones z below);
         feasible =
             record {
-              generation = λ z below. omega (arith, needs.each z below, ample.covered z below);
+              generation = λ z below. omega (arith, are.each z below, ample.covered z below);
               served = λ z below. omega arith;
               discharge = λ k below. omega (arith, zero-at (device_count n.shape) k below);
               charge = λ k below. omega arith;
-              forward = λ l below. omega (arith, ap forward_of (no-flow n chain l));
-              backward = λ l below. omega (arith, ap backward_of (no-flow n chain l));
+              forward = λ l below. omega (arith, ap forward_of (no-flow n needs l));
+              backward = λ l below. omega (arith, ap backward_of (no-flow n needs l));
               balance =
                   λ z below.
                   omega (
                     arith,
-                    needs.each z below,
+                    are.each z below,
                     zero-at n.shape.zones z below,
-                    still-in n.shape (flow_in (ample_chain n chain)) z (no-flow n chain),
-                    still-out n.shape (flow_in (ample_chain n chain)) z (no-flow n chain),
+                    still-in n.shape (flow_in (ample_chain n needs)) z (no-flow n needs),
+                    still-out n.shape (flow_in (ample_chain n needs)) z (no-flow n needs),
                     sum_where-none (λ k. zone_of_device n.shape k == z) (λ k. get_or (zeros (device_count n.shape)) k 0)
                         (device_count n.shape) (λ k less at. zero-at (device_count n.shape) k less),
                   );
             };
       }
 
-  ample-proved : IsProvedBy n (ample_outcome n outcome) (ample_chain n chain)
+  ample-proved : IsProvedBy n (ample_outcome n outcome) (ample_chain n needs)
   ample-proved =
       let empty : (i : ℕ) → i < set_count n.shape → get_or (zeros (set_count n.shape)) i 0 ≡ 0 =
       zero-at (set_count n.shape) in
@@ -243,28 +228,23 @@ module _ (n : NetworkParts) (outcome : HourOutcome) (chain : Chain) where
   ample-cut : IsCut n (all_unserved n (ample_outcome n outcome)) 0
   ample-cut = served-cut n (all_unserved n (ample_outcome n outcome)) (none-unserved n outcome)
 
--- what an hour's dispatch owes, but for what follows from it: that its outcome is the only best one and leaves the
--- least unserved
-pub record IsSettled (n : NetworkParts) (outcome : HourOutcome) (chain : Chain) : Type 0 where
-  pub fit : Fit n outcome chain
-  pub accepted : IsAccepted n outcome chain
-  pub cut : IsCut n (all_unserved n outcome) outcome.cut
-
-pub ample-settled : (n : NetworkParts) (before after : HourOutcome) (chain chain' : Chain)
-    → IsNetwork n
-    → AreSized n before chain
+-- an ample hour is settled so
+pub ample-settled : (n : NetworkParts) (outcome : HourOutcome) (needs : List ℕ)
+    → length outcome.energy ≡ device_count n.shape
+    → length n.charge_caps ≡ device_count n.shape
     → IsAmple n
-    → AreNeeds n chain.generation
-    → after ≡ ample_outcome n before
-    → chain' ≡ ample_chain n chain
-    → IsSettled n after chain'
-ample-settled n before after chain chain' valid sized ample needs outcome-is chain-is =
-    let made : IsSettled n (ample_outcome n before) (ample_chain n chain) =
+    → AreNeeds n needs
+    → IsSettled n (ample_outcome n outcome) (ample_chain n needs)
+ample-settled n outcome needs energy caps ample are =
     record {
-      fit = ample-fits n before chain sized valid;
-      accepted = (ample-feasible n before chain ample needs, ample-proved n before chain);
-      cut = ample-cut n before chain;
-    } in
-    let of_chain : IsSettled n (ample_outcome n before) chain' =
-    subst (λ (c : Chain). IsSettled n (ample_outcome n before) c) (sym chain-is) made in
-    subst (λ (o : HourOutcome). IsSettled n o chain') (sym outcome-is) of_chain
+      fit = ample-fits n outcome needs energy caps are;
+      accepted = (ample-feasible n outcome needs ample are, ample-proved n outcome needs);
+      cut = ample-cut n outcome needs;
+    }
+
+-- what is settled is the only best, and leaves the least unserved
+pub settled-best : (n : NetworkParts) (outcome : HourOutcome) (chain : Chain) → IsShape n.shape → IsSettled n outcome chain → IsOnlyBestOutcome n outcome
+settled-best n outcome chain valid is = accepted-best n outcome chain valid is.accepted
+
+pub settled-least : (n : NetworkParts) (outcome : HourOutcome) (chain : Chain) → IsShape n.shape → IsSettled n outcome chain → IsLeastUnserved n (all_unserved n outcome)
+settled-least n outcome chain valid is = cut-least n (all_unserved n outcome) outcome.cut valid is.cut

@@ -1,7 +1,7 @@
 use Rattle.std.proofs.Common.{◌≡◌, ℕ, ◌+◌, ◌-◌, ◌<◌, ◌^◌, ◌==◌, inl, inr, true, false, List, length, get_or, ap, sym, ◌∙◌, subst, arith}
 use Rattle.std.proofs.lemmas.Bool.{cases_lt}
 use Rattle.std.proofs.lemmas.List.Elements.{All-from_get_or}
-use Rattle.zone_network.specs.Network.{NetworkParts, IsNetwork, inflow, outflow, zone_of_device, link_count, device_count, from_zone, to_zone, forward_of, backward_of}
+use Rattle.zone_network.specs.Network.{NetworkParts, IsShape, inflow, outflow, zone_of_device, link_count, device_count, from_zone, to_zone, forward_of, backward_of}
 use Rattle.zone_network.proofs.SumLemmas.{sum_where-same}
 use Rattle.transfer_flow.specs.Flow.{FlowParts, flow_at}
 use Rattle.sample_totals.specs.declared.outcomes.HourOutcome.{HourOutcome}
@@ -161,6 +161,6 @@ dispatched n f1 f2 f3 o1 o2 o3 chain sets1 sets2 sets3 energy served stays spare
     }
 
 -- an outcome whose chain is accepted is the only best
-pub accepted-best : (n : NetworkParts) (outcome : HourOutcome) (chain : Chain) → IsNetwork n → IsAccepted n outcome chain → IsOnlyBestOutcome n outcome
+pub accepted-best : (n : NetworkParts) (outcome : HourOutcome) (chain : Chain) → IsShape n.shape → IsAccepted n outcome chain → IsOnlyBestOutcome n outcome
 accepted-best n outcome chain valid accepted =
-    only_best n outcome (chain_is_best_outcome n outcome chain valid.shape accepted.0 accepted.1)
+    only_best n outcome (chain_is_best_outcome n outcome chain valid accepted.0 accepted.1)

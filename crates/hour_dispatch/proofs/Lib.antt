@@ -3,7 +3,7 @@ pub mod BalanceLemmas
 pub mod StartLemmas
 pub mod ServeLemmas
 pub mod CutLemmas
-pub mod AmpleLaws
 pub mod DischargeLemmas
 pub mod ChargeLemmas
 pub mod BestLemmas
+pub mod AmpleLaws

@@ -32,10 +32,11 @@ ample_outcome n outcome =
       cut = 0;
     }
 
--- and its chain: nothing flows, and each component is at its bound
-abbrev pub ample_chain : NetworkParts → Chain → Chain
-ample_chain n chain =
-    record chain {
+-- and its chain, where each zone generates what it needs: nothing flows, and each component is at its bound
+abbrev pub ample_chain : NetworkParts → List ℕ → Chain
+ample_chain n needs =
+    record {
       flows = replicate (link_count n.shape) (pos 0);
+      generation = needs;
       sets = zeros (set_count n.shape);
     }

@@ -1,3 +1,4 @@
 pub mod Ample
 pub mod Balance
 pub mod Stages
+pub mod Settled

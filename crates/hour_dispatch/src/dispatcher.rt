@@ -4,7 +4,6 @@ ghost use Rattle.zone_network.specs.Cut.{IsCut};
 ghost use Rattle.cut_certificate.specs.Chain.{AreSized, Fit, IsAccepted, IsOnlyBestOutcome, all_unserved};
 ghost use Rattle.cut_certificate.specs.Least.{IsLeastUnserved};
 
-use crate::ample::{is_ample, keep_still};
 use crate::charging::charge;
 use crate::cutting::cut;
 use crate::discharging::discharge;
@@ -54,25 +53,6 @@ impl Dispatcher {
         ensures best { IsOnlyBestOutcome net.now outcome.new }
         ensures cut { IsCut net.now (all_unserved net.now outcome.new) outcome.new.cut }
         ensures least { IsLeastUnserved net.now (all_unserved net.now outcome.new) }
-        ensures hour { outcome.new.hour ≡ outcome.old.hour }
-        ensures energy { outcome.new.energy ≡ outcome.old.energy }
-    {
-        // Most hours need no pulls.
-        if is_ample(net, &mut chain.generation) {
-            keep_still(net, outcome, chain);
-        } else {
-            self.search(net, outcome, chain);
-        }
-    }
-
-    /// The same for any hour, stage by stage.
-    fn search(&mut self, net: &Network, outcome: &mut HourOutcome, chain: &mut Chain)
-        requires shape { self.old ≡ net.now.shape }
-        requires sizes { AreSized net.now outcome.old chain.old }
-        ensures shape { self.new ≡ net.now.shape }
-        ensures fit { Fit net.now outcome.new chain.new }
-        ensures accepted { IsAccepted net.now outcome.new chain.new }
-        ensures cut { IsCut net.now (all_unserved net.now outcome.new) outcome.new.cut }
         ensures hour { outcome.new.hour ≡ outcome.old.hour }
         ensures energy { outcome.new.energy ≡ outcome.old.energy }
     {

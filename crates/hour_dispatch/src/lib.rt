@@ -1,14 +1,14 @@
 //! The best dispatch of an hour: for a network with its storage devices the outcome that no feasible
 //! dispatch beats, the hour's cut, and a chain of sets that proves it.
 //!
-//! In many hours each zone's supply covers its load and all that its devices may charge, and that is the
-//! best. In the others one flow serves all stages: zones are served in order, the cut is taken, discharge is
-//! kept least from the last device to the first, and charge is raised from the first device to the last.
-//! Each stage is a row of pulls; where one falls short, the zones that it searched prove that no more can
-//! be had.
+//! One flow serves all stages: zones are served in order, the cut is taken, discharge is kept least from the
+//! last device to the first, and charge is raised from the first device to the last. Each stage is a row of
+//! pulls; where one falls short, the zones that it searched prove that no more can be had.
+//!
+//! Where each zone's supply covers its load and all that its devices may charge, that is the best, as the
+//! laws of `Ample` say, and who knows it needs no dispatcher.
 #![tactic(auto)]
 
-mod ample;
 mod charging;
 mod cutting;
 mod discharging;

@@ -6,7 +6,7 @@ use Rattle.std.proofs.lemmas.List.Elements.{All-map, All-weaker}
 use Rattle.system_model.specs.declared.components.Interface.{Interface}
 use Rattle.system_model.specs.declared.components.Storage.{Storage}
 use Rattle.system_model.specs.System.{SystemParts, IsValid, IsInterfaceAmong, IsStorageAmong, zone_count, storage_count, storage_at}
-use Rattle.outage_chronology.specs.Outages.{storage_component, was_up}
+use Rattle.outage_chronology.specs.Outages.{is_up, storage_component, was_up}
 use Rattle.outage_chronology.specs.Standing.{Standing, is_up_at, was_up_at}
 use Rattle.storage_state.specs.Energy.{caps_if, caps_of}
 use Rattle.storage_state.specs.Holdings.{Holdings, IsWithinCaps, carried_energies, energy_of, start_energies}
@@ -17,9 +17,11 @@ use Rattle.sample_totals.specs.declared.outcomes.HourOutcome.{HourOutcome}
 use Rattle.cut_certificate.specs.declared.chains.Chain.{Chain}
 use Rattle.cut_certificate.specs.Chain.{empty_chain, AreSized, Fit, IsAccepted, IsBestOutcome, all_unserved}
 use Rattle.cut_certificate.specs.Least.{IsLeastUnserved}
+use Rattle.hour_dispatch.specs.Settled.{IsSettled}
+use Rattle.hour_dispatch.proofs.AmpleLaws.{settled-best, settled-least}
 use Rattle.sample_run.specs.HourNetwork.{shape_of, link_of, network_of, device_caps, AreLinks}
 use Rattle.sample_run.specs.Run.{IsHour, energies_after}
-use Rattle.sample_run.specs.Moments.{IsKept}
+use Rattle.sample_run.specs.Moments.{Moment, IsKept, up_in}
 use Rattle.sample_run.specs.declared.up_sums.UpSums.{UpSums}
 use Rattle.sample_run.specs.UpSums.{AreSums, all_up}
 
@@ -50,22 +52,36 @@ network-shape system up energies hour = refl
 pub devices-count : (system : SystemParts) (n : NetworkParts) → n.shape ≡ shape_of system → device_count n.shape ≡ storage_count system
 devices-count system n is = ap device_count is ∙ length-map system.storages (λ (storage : Storage). storage.zone)
 
--- the sizes of an outcome and a chain are the same for each network of the shape, whatever the outcome's hour
-pub sized-again : (n m : NetworkParts) (outcome : HourOutcome) (hour : ℕ) (chain : Chain)
+-- the sizes of an outcome and a chain are the same for each network of the shape, whatever the outcome's hour, and with
+-- other charges and generation of the same sizes
+pub sized-again : (n m : NetworkParts) (outcome : HourOutcome) (hour : ℕ) (charge : List ℕ) (chain : Chain) (generation : List ℕ)
     → n.shape ≡ m.shape
+    → length charge ≡ length outcome.charge
+    → length generation ≡ length chain.generation
     → AreSized n outcome chain
-    → AreSized m (record outcome { hour = hour }) chain
-sized-again n m outcome hour chain same is =
+    → AreSized m (record outcome { hour = hour; charge = charge }) (record chain { generation = generation })
+sized-again n m outcome hour charge chain generation same charges generations is =
     let sized = subst (λ (s : ShapeParts). AreSized (record n { shape = s }) outcome chain) same is in
     record {
       unserved = sized.unserved;
       discharge = sized.discharge;
-      charge = sized.charge;
+      charge = charges ∙ sized.charge;
       energy = sized.energy;
       flows = sized.flows;
-      generation = sized.generation;
+      generation = generations ∙ sized.generation;
       sets = sized.sets;
     }
+
+-- what is settled for the components that the chronology has up, and by the storages' energies, is so as a caller sees
+-- them
+pub as-seen : (system : SystemParts) (standing : Standing) (energies seen : List ℕ) (outcome : HourOutcome) (chain : Chain)
+    → standing.system ≡ system
+    → energies ≡ seen
+    → IsSettled (network_of system (is_up_at standing) energies standing.hour) outcome chain
+    → IsSettled (network_of system (is_up system standing.seed standing.sample standing.hour) seen standing.hour) outcome chain
+as-seen system standing energies seen outcome chain stands same is =
+    subst (λ (held : List ℕ). IsSettled (network_of system (is_up system standing.seed standing.sample standing.hour) held standing.hour) outcome chain) same
+    (subst (λ (s : SystemParts). IsSettled (network_of system (is_up s standing.seed standing.sample standing.hour) energies standing.hour) outcome chain) stands is)
 
 -- what a feasible dispatch charges and discharges is within the caps of the storages, up or out
 charge-below : (up : Bool) (storage : Storage) (energy : ℕ) → (caps_if up storage energy).charge ≤ (caps_of storage energy).charge
@@ -76,7 +92,7 @@ discharge-below : (up : Bool) (storage : Storage) (energy : ℕ) → (caps_if up
 discharge-below true storage energy = omega arith
 discharge-below false storage energy = omega arith
 
-charge-cap : (system : SystemParts) (up : NumberSet) (energies : List ℕ) (hour k : ℕ)
+pub charge-cap : (system : SystemParts) (up : NumberSet) (energies : List ℕ) (hour k : ℕ)
     → k < storage_count system
     → charge_cap_at (network_of system up energies hour) k ≡ (device_caps system up energies k).charge
 unfolding network_of
@@ -169,74 +185,103 @@ kept-first system shape standing sums held empty n dispatcher outcome chain zone
           };
     }
 
--- what is kept still belongs to the system
-pub kept-again : (system : SystemParts) (standing : Standing) (sums : UpSums) (held held' : Holdings) (n : NetworkParts) (dispatcher : ShapeParts) (outcome : HourOutcome) (energies : List ℕ) (chain : Chain)
-    → standing.system ≡ system
-    → AreSums system (is_up_at standing) sums
-    → held.system ≡ system
-    → n.shape ≡ shape_of system
-    → AreLinks system (is_up_at standing) n
-    → dispatcher ≡ n.shape
-    → Fit n outcome chain
-    → energies ≡ energies_after system held.energies outcome.charge outcome.discharge
-    → held' ≡ record held { energies = energies }
-    → IsKept system standing sums held' n dispatcher (record outcome { energy = energies }) chain
-kept-again system standing sums held held' n dispatcher outcome energies chain stands sum_up holds shape links dispatches fit after is =
-    let size : length energies ≡ storage_count system = ap length after ∙ length-map-range_with_len _ 0 (storage_count system) in
-    record {
-      chronology = stands;
-      kept_sums = sum_up;
-      storages = ap (λ (h : Holdings). h.system) is ∙ holds;
-      held = ap (λ (h : Holdings). length h.energies) is ∙ size;
-      shape = shape;
-      links = links;
-      dispatches = dispatches ∙ shape;
-      sizes =
-          record {
-            unserved = fit.sizes.unserved;
-            discharge = fit.sizes.discharge;
-            charge = fit.sizes.charge;
-            energy = size ∙ sym (devices-count system n shape);
-            flows = fit.sizes.flows;
-            generation = fit.sizes.generation;
-            sets = fit.sizes.sets;
-          };
-    }
-
--- the outcome of the best dispatch, with the energies after it, is that of the hour
-pub hour-made : (system : SystemParts) (up : NumberSet) (before : List ℕ) (hour : ℕ) (n : NetworkParts) (outcome : HourOutcome) (energies : List ℕ) (chain : Chain)
-    → n ≡ network_of system up before hour
-    → outcome.hour ≡ hour
-    → Fit n outcome chain
-    → IsBestOutcome n outcome
-    → IsCut n (all_unserved n outcome) outcome.cut
-    → energies ≡ energies_after system before outcome.charge outcome.discharge
-    → IsHour system up before hour (record outcome { energy = energies })
-hour-made system up before hour n outcome energies chain is number fit best cut after =
-    let shape : n.shape ≡ shape_of system = ap (λ (m : NetworkParts). m.shape) is ∙ network-shape system up before hour in
-    let now : HourOutcome = record outcome { energy = energies } in
-    let best' : IsBestOutcome n now =
-    (best.0, best.1, record { unserved = best.2.unserved; discharge = best.2.discharge; charge = best.2.charge }) in
-    record {
-      number = number;
-      zones = fit.sizes.unserved ∙ ap (λ (s : ShapeParts). s.zones) shape;
-      discharges = fit.sizes.discharge ∙ devices-count system n shape;
-      charges = fit.sizes.charge ∙ devices-count system n shape;
-      best = subst (λ (m : NetworkParts). IsBestOutcome m now) is best';
-      energy = after;
-      cut = subst (λ (m : NetworkParts). IsCut m (all_unserved m now) now.cut) is cut;
-    }
-
-pub least-made : (system : SystemParts) (up : NumberSet) (before : List ℕ) (hour : ℕ) (n : NetworkParts) (outcome : HourOutcome)
-    → n ≡ network_of system up before hour
-    → IsLeastUnserved n (all_unserved n outcome)
-    → IsLeastUnserved (network_of system up before hour) (all_unserved (network_of system up before hour) outcome)
-least-made system up before hour n outcome is least = subst (λ (m : NetworkParts). IsLeastUnserved m (all_unserved m outcome)) is least
-
 -- the links of an hour's network
 pub network-links : (system : SystemParts) (up : NumberSet) (energies : List ℕ) (hour : ℕ) → AreLinks system up (network_of system up energies hour)
 unfolding network_of
 network-links system up energies hour = record { forwards = refl; backwards = refl }
+
+-- what is kept still belongs to the system once the hour was dispatched
+pub kept-dispatched : (system : SystemParts) (standing : Standing) (sums : UpSums) (held : Holdings) (before n : NetworkParts) (dispatcher dispatcher' : ShapeParts) (outcome outcome' : HourOutcome) (chain chain' : Chain)
+    → n ≡ network_of system (is_up_at standing) held.energies standing.hour
+    → dispatcher' ≡ n.shape
+    → Fit n outcome' chain'
+    → IsKept system standing sums held before dispatcher outcome chain
+    → IsKept system standing sums held n dispatcher' outcome' chain'
+kept-dispatched system standing sums held before n dispatcher dispatcher' outcome outcome' chain chain' is dispatches fit kept =
+    let shape : n.shape ≡ shape_of system =
+    ap (λ (m : NetworkParts). m.shape) is ∙ network-shape system (is_up_at standing) held.energies standing.hour in
+    record {
+      chronology = kept.chronology;
+      kept_sums = kept.kept_sums;
+      storages = kept.storages;
+      held = kept.held;
+      shape = shape;
+      links = rw is (network-links system (is_up_at standing) held.energies standing.hour);
+      dispatches = dispatches ∙ shape;
+      sizes = fit.sizes;
+    }
+
+-- and with the energies after it
+pub kept-again : (system : SystemParts) (standing : Standing) (sums : UpSums) (held held' : Holdings) (n : NetworkParts) (dispatcher : ShapeParts) (outcome : HourOutcome) (energies : List ℕ) (chain : Chain)
+    → energies ≡ energies_after system held.energies outcome.charge outcome.discharge
+    → held' ≡ record held { energies = energies }
+    → IsKept system standing sums held n dispatcher outcome chain
+    → IsKept system standing sums held' n dispatcher (record outcome { energy = energies }) chain
+kept-again system standing sums held held' n dispatcher outcome energies chain after is kept =
+    let size : length energies ≡ storage_count system = ap length after ∙ length-map-range_with_len _ 0 (storage_count system) in
+    record {
+      chronology = kept.chronology;
+      kept_sums = kept.kept_sums;
+      storages = ap (λ (h : Holdings). h.system) is ∙ kept.storages;
+      held = ap (λ (h : Holdings). length h.energies) is ∙ size;
+      shape = kept.shape;
+      links = kept.links;
+      dispatches = kept.dispatches;
+      sizes =
+          record {
+            unserved = kept.sizes.unserved;
+            discharge = kept.sizes.discharge;
+            charge = kept.sizes.charge;
+            energy = size ∙ sym (devices-count system n kept.shape);
+            flows = kept.sizes.flows;
+            generation = kept.sizes.generation;
+            sets = kept.sizes.sets;
+          };
+    }
+
+-- what is settled for an hour as it is seen is so for what is kept inside
+pub settled-inside : (inside seen before : Moment)
+    → inside ≡ seen
+    → seen ≡ record before { outcome = seen.outcome }
+    → ((chain : Chain) × IsSettled (network_of seen.system (up_in seen) before.energies seen.hour) seen.outcome chain)
+    → (chain : Chain) × IsSettled (network_of inside.system (up_in inside) inside.energies inside.hour) inside.outcome chain
+settled-inside inside seen before view at settled =
+    let with_energies = subst (λ (energies : List ℕ). (chain : Chain) × IsSettled (network_of seen.system (up_in seen) energies seen.hour) seen.outcome chain)
+    (sym (ap (λ (m : Moment). m.energies) at)) settled in
+    subst (λ (m : Moment). (chain : Chain) × IsSettled (network_of m.system (up_in m) m.energies m.hour) m.outcome chain) (sym view) with_energies
+
+-- the network of an hour of a valid system has a valid shape
+network-shaped : (system : SystemParts) (up : NumberSet) (energies : List ℕ) (hour : ℕ) → IsValid system → IsShape (network_of system up energies hour).shape
+network-shaped system up energies hour valid = subst IsShape (sym (network-shape system up energies hour)) (shape-valid system valid)
+
+-- the outcome of a settled hour, with the energies after it, is that of the hour, and no feasible dispatch leaves less
+-- unserved
+pub hour-made : (system : SystemParts) (up : NumberSet) (before : List ℕ) (hour : ℕ) (outcome : HourOutcome) (energies : List ℕ) (chain : Chain)
+    → IsValid system
+    → outcome.hour ≡ hour
+    → IsSettled (network_of system up before hour) outcome chain
+    → energies ≡ energies_after system before outcome.charge outcome.discharge
+    → IsHour system up before hour (record outcome { energy = energies })
+hour-made system up before hour outcome energies chain valid number settled after =
+    let n = network_of system up before hour in
+    let shape = network-shape system up before hour in
+    let best = (settled-best n outcome chain (network-shaped system up before hour valid) settled).best in
+    record {
+      number = number;
+      zones = settled.fit.sizes.unserved ∙ ap (λ (s : ShapeParts). s.zones) shape;
+      discharges = settled.fit.sizes.discharge ∙ devices-count system n shape;
+      charges = settled.fit.sizes.charge ∙ devices-count system n shape;
+      best = (best.0, best.1, record { unserved = best.2.unserved; discharge = best.2.discharge; charge = best.2.charge });
+      energy = after;
+      cut = settled.cut;
+    }
+
+pub least-made : (system : SystemParts) (up : NumberSet) (before : List ℕ) (hour : ℕ) (outcome : HourOutcome) (chain : Chain)
+    → IsValid system
+    → IsSettled (network_of system up before hour) outcome chain
+    → IsLeastUnserved (network_of system up before hour) (all_unserved (network_of system up before hour) outcome)
+least-made system up before hour outcome chain valid settled =
+    settled-least (network_of system up before hour) outcome chain (network-shaped system up before hour valid) settled
 
 -- what is kept is kept on over the next hour
 pub kept-next : (system : SystemParts) (standing standing' : Standing) (sums sums' : UpSums) (held held' : Holdings) (n n' : NetworkParts) (dispatcher : ShapeParts) (outcome : HourOutcome) (chain : Chain)
@@ -258,7 +303,7 @@ kept-next system standing standing' sums sums' held held' n n' dispatcher outcom
       shape = same ∙ kept.shape;
       links = links;
       dispatches = kept.dispatches;
-      sizes = sized-again n n' outcome outcome.hour chain (sym same) kept.sizes;
+      sizes = sized-again n n' outcome outcome.hour outcome.charge chain chain.generation (sym same) refl refl kept.sizes;
     }
 
 -- sums over all components are those before hour 0, and those of an hour are those before the next

@@ -3,6 +3,7 @@ pub mod UpSumsLoops
 pub mod NetworkSteps
 pub mod EnergySteps
 pub mod HoursLemmas
+pub mod AmpleSteps
 pub mod RunLaws
 pub mod RunSteps
 pub mod Laws

@@ -6,6 +6,7 @@ ghost use Rattle.outage_chronology.specs.Standing.{is_up_at};
 ghost use Rattle.sample_run.specs.UpSums.{AreSums};
 ghost use Rattle.sample_run.specs.Run.{energies_after};
 
+use crate::ample::{is_ample, keep_still};
 use crate::both::both;
 use crate::network::{follow, set_hour, set_links};
 use crate::shapes::shape_of;
@@ -56,6 +57,8 @@ impl<'a> Model for Hours<'a> {
 impl<'a> Hours<'a> {
     ghost use Rattle.cut_certificate.specs.Chain.{all_unserved};
     ghost use Rattle.cut_certificate.specs.Least.{IsLeastUnserved};
+    ghost use Rattle.cut_certificate.specs.declared.chains.Chain.{Chain};
+    ghost use Rattle.hour_dispatch.specs.Settled.{IsSettled};
     ghost use Rattle.sample_run.specs.HourNetwork.{network_of};
     ghost use Rattle.sample_run.specs.Run.{IsHour};
     ghost use Rattle.sample_run.specs.Moments.{up_in};
@@ -158,16 +161,7 @@ impl<'a> Hours<'a> {
           outcome = self.new.outcome;
         } }
     {
-        set_hour(
-            &mut self.network,
-            self.system,
-            &self.chronology,
-            &self.storages,
-            &self.sums,
-        );
-        self.outcome.hour = self.chronology.hour();
-        self.dispatcher
-            .best(&self.network, &mut self.outcome, &mut self.chain);
+        self.dispatch();
         apply(
             &mut self.storages,
             self.system,
@@ -175,6 +169,37 @@ impl<'a> Hours<'a> {
             &self.outcome.discharge,
             &mut self.outcome.energy,
         );
+    }
+
+    /// Writes what the hour where the chronology stands comes to, but for the energies.
+    fn dispatch(&mut self)
+        ensures settled { let n = network_of self.new.system (up_in self.new) self.old.energies self.new.hour in
+            (chain : Chain) × IsSettled n self.new.outcome chain }
+        ensures hour { self.new.outcome.hour ≡ self.old.hour }
+        ensures at { self.new ≡ record self.old { outcome = self.new.outcome } }
+        ensures valid { IsValid self.new.system }
+    {
+        self.outcome.hour = self.chronology.hour();
+        // Most hours need no network.
+        if is_ample(
+            self.system,
+            &self.chronology,
+            &self.storages,
+            &self.sums,
+            &mut self.chain.generation,
+            &mut self.outcome.charge,
+        ) {
+            return keep_still(&mut self.outcome);
+        }
+        set_hour(
+            &mut self.network,
+            self.system,
+            &self.chronology,
+            &self.storages,
+            &self.sums,
+        );
+        self.dispatcher
+            .best(&self.network, &mut self.outcome, &mut self.chain);
     }
 
     /// The outcome of the hour that was gone through last.

@@ -2,6 +2,7 @@
 //! follow, and the figures that the hours come to.
 #![tactic(auto)]
 
+mod ample;
 mod both;
 mod hours;
 mod network;

@@ -1,5 +1,6 @@
-ghost use Rattle.std.specs.Prelude.{◌≡◌, ◌==◌, min, map, if◌then◌else◌};
+ghost use Rattle.std.specs.Prelude.{◌≡◌, ◌==◌, ◌<◌, ◌≤◌, min, map, if◌then◌else◌};
 ghost use Rattle.std.specs.List.{range_with_len};
+ghost use Rattle.ra_base.specs.declared.limits.TheConstants.{MOST_LINK_MW};
 ghost use Rattle.system_model.specs.System.{zone_count, storage_count, hourly_load};
 ghost use Rattle.outage_chronology.specs.Standing.{is_up_at, was_up_at};
 ghost use Rattle.sample_run.specs.UpSums.{AreSums};
@@ -65,12 +66,21 @@ fn set_zones(net: &mut Network, system: &System, chronology: &Chronology<'_>, su
         map (hourly_load system.now chronology.now.hour) (range_with_len 0 (zone_count system.now)) }
     ensures rest { net.new ≡ record net.old { supplies = net.new.supplies; loads = net.new.loads } }
 {
-    let hour = chronology.hour();
     for zone in 0..net.zones() {
-        let up = sums.units.get(zone as usize);
-        net.set_supply(zone, up + system.variable(hour, zone));
-        net.set_load(zone, system.load(hour, zone));
+        net.set_supply(zone, supply(system, chronology, sums, zone));
+        net.set_load(zone, system.load(chronology.hour(), zone));
     }
+}
+
+/// What a zone has in the hour where the chronology stands, in MW.
+pub(crate) fn supply(system: &System, chronology: &Chronology<'_>, sums: &UpSums, zone: u8) -> u32
+    requires zone { zone < zone_count system.now }
+    requires chronology { chronology.now.system ≡ system.now }
+    requires sums { AreSums system.now (is_up_at chronology.now) sums.now }
+    ensures value { result ≡ zone_supply system.now (is_up_at chronology.now) chronology.now.hour zone }
+    ensures most { result ≤ MOST_LINK_MW }
+{
+    sums.units.get(zone as usize) + system.variable(chronology.hour(), zone)
 }
 
 /// Sets what each link carries.

@@ -10,7 +10,7 @@ invariant-loop-zone l =
     record {
       supplies_size : length l.net.supplies ≡ zone_count l.system;
       loads_size : length l.net.loads ≡ zone_count l.system;
-      supplies : (z : ℕ) → z < l.zone → get_or l.net.supplies z 0 ≡ zone_supply l.system (is_up_at l.chronology) l.hour z;
-      loads : (z : ℕ) → z < l.zone → get_or l.net.loads z 0 ≡ hourly_load l.system l.hour z;
+      supplies : (z : ℕ) → z < l.zone → get_or l.net.supplies z 0 ≡ zone_supply l.system (is_up_at l.chronology) l.chronology.hour z;
+      loads : (z : ℕ) → z < l.zone → get_or l.net.loads z 0 ≡ hourly_load l.system l.chronology.hour z;
       rest : l.net ≡ record l.fn.net { supplies = l.net.supplies; loads = l.net.loads };
     }

@@ -1,52 +1,54 @@
-use Rattle.std.proofs.Common.{◌∙◌}
-use Rattle.cut_certificate.specs.declared.chains.Chain.{Chain}
-use Rattle.cut_certificate.specs.Chain.{AreSized, all_unserved}
+use Rattle.std.proofs.Common.{sym, subst}
+use Rattle.zone_network.specs.Cut.{IsCut}
+use Rattle.sample_totals.specs.declared.outcomes.HourOutcome.{HourOutcome}
+use Rattle.cut_certificate.specs.Chain.{IsAccepted, all_unserved, served_but}
 use Rattle.hour_dispatch.proofs.CutLemmas.{cut-least}
-use Rattle.hour_dispatch.proofs.AmpleLaws.{IsSettled, ample-settled}
-use Rattle.hour_dispatch.proofs.BestLemmas.{accepted-best}
+use Rattle.hour_dispatch.proofs.DischargeLemmas.{spare-end, spare-supply}
+use Rattle.hour_dispatch.proofs.BestLemmas.{IsDispatched, accepted-best, dispatched, dispatched-fits, dispatched-feasible, dispatched-proved}
 use Rattle.hour_dispatch.proofs.dispatcher.Dispatcher.best.Goals as goal
-use Rattle.hour_dispatch.proofs.dispatcher.Dispatcher.best.Goals.{After-keep_still}
 
-settled : (c : After-keep_still) → IsSettled c.args.net.now c.keep_still.new.outcome c.keep_still.new.chain
-settled c =
-    let needs : Chain = record c.args.chain.now { generation = c.is_ample.new.needs } in
-    let sizes : AreSized c.args.net.now c.args.outcome.now needs =
-    record {
-      unserved = c.requires.sizes.unserved;
-      discharge = c.requires.sizes.discharge;
-      charge = c.requires.sizes.charge;
-      energy = c.requires.sizes.energy;
-      flows = c.requires.sizes.flows;
-      generation = c.is_ample.ensures.size ∙ c.requires.sizes.generation;
-      sets = c.requires.sizes.sets;
-    } in
-    ample-settled c.args.net.now c.args.outcome.now c.keep_still.new.outcome needs c.keep_still.new.chain
-    c.is_ample.ensures.valid sizes (c.is_ample.ensures.ample.0 c.if-is_ample.true) (c.is_ample.ensures.needs c.if-is_ample.true)
-    c.keep_still.ensures.outcome c.keep_still.ensures.chain
+pub charge-requires-clause-balance : goal.charge-requires-clause-balance
+charge-requires-clause-balance c =
+    spare-end c.args.net.now c.discharge.new.flow (served_but c.args.net.now c.discharge.new.outcome.unserved)
+    c.discharge.new.outcome.discharge c.discharge.new.sets c.discharge.ensures.spared
 
-pub returns-then-is_ample-clause-fit : goal.returns-then-is_ample-clause-fit
-returns-then-is_ample-clause-fit c = (settled c).fit
+pub charge-requires-clause-unused : goal.charge-requires-clause-unused
+charge-requires-clause-unused c =
+    spare-supply c.args.net.now c.discharge.new.flow (served_but c.args.net.now c.discharge.new.outcome.unserved)
+    c.discharge.new.outcome.discharge c.discharge.new.sets c.discharge.ensures.spared
 
-pub returns-then-is_ample-clause-accepted : goal.returns-then-is_ample-clause-accepted
-returns-then-is_ample-clause-accepted c = (settled c).accepted
+made : (c : goal.After-generate) → IsDispatched c.args.net.now c.charge.new.flow c.charge.new.outcome c.generate.new.chain
+made c =
+    dispatched c.args.net.now c.serve.new.flow c.discharge.new.flow c.charge.new.flow
+    (record c.args.outcome.now { unserved = c.serve.new.unserved; cut = c.cut-outcome.result }) c.discharge.new.outcome
+    c.charge.new.outcome c.generate.new.chain c.serve.new.sets c.discharge.new.sets c.charge.new.sets c.requires.sizes.energy
+    c.serve.ensures c.discharge.ensures.stays c.discharge.ensures.spared c.discharge.ensures.kept c.charge.ensures.stays
+    c.charge.ensures.charged c.charge.ensures.kept c.generate.ensures.shown c.generate.ensures.sets
 
-pub returns-then-is_ample-clause-best : goal.returns-then-is_ample-clause-best
-returns-then-is_ample-clause-best c =
-    accepted-best c.args.net.now c.keep_still.new.outcome c.keep_still.new.chain c.is_ample.ensures.valid (settled c).accepted
+pub returns-clause-fit : goal.returns-clause-fit
+returns-clause-fit c =
+    dispatched-fits c.args.net.now c.charge.new.flow c.charge.new.outcome c.generate.new.chain (made c)
 
-pub returns-then-is_ample-clause-cut : goal.returns-then-is_ample-clause-cut
-returns-then-is_ample-clause-cut c = (settled c).cut
+accepted : (c : goal.After-generate) → IsAccepted c.args.net.now c.charge.new.outcome c.generate.new.chain
+accepted c = (
+  dispatched-feasible c.args.net.now c.charge.new.flow c.charge.new.outcome c.generate.new.chain (made c),
+  dispatched-proved c.args.net.now c.charge.new.flow c.charge.new.outcome c.generate.new.chain (made c),
+)
 
-pub returns-then-is_ample-clause-least : goal.returns-then-is_ample-clause-least
-returns-then-is_ample-clause-least c =
-    cut-least c.args.net.now (all_unserved c.args.net.now c.keep_still.new.outcome) c.keep_still.new.outcome.cut
-    c.is_ample.ensures.valid.shape (settled c).cut
+pub returns-clause-accepted : goal.returns-clause-accepted
+returns-clause-accepted c = accepted c
 
-pub returns-else-is_ample-clause-best : goal.returns-else-is_ample-clause-best
-returns-else-is_ample-clause-best c =
-    accepted-best c.args.net.now c.search.new.outcome c.search.new.chain c.is_ample.ensures.valid c.search.ensures.accepted
+pub returns-clause-best : goal.returns-clause-best
+returns-clause-best c =
+    accepted-best c.args.net.now c.charge.new.outcome c.generate.new.chain c.generate.ensures.valid.shape (accepted c)
 
-pub returns-else-is_ample-clause-least : goal.returns-else-is_ample-clause-least
-returns-else-is_ample-clause-least c =
-    cut-least c.args.net.now (all_unserved c.args.net.now c.search.new.outcome) c.search.new.outcome.cut
-    c.is_ample.ensures.valid.shape c.search.ensures.cut
+-- the cut that was taken before discharge is that of what they leave
+cut-stays : (c : goal.After-generate) → IsCut c.args.net.now (all_unserved c.args.net.now c.charge.new.outcome) c.charge.new.outcome.cut
+cut-stays c =
+    let is_cut = λ (o : HourOutcome). IsCut c.args.net.now (all_unserved c.args.net.now o) o.cut in
+    subst is_cut (sym c.charge.ensures.stays) (subst is_cut (sym c.discharge.ensures.stays) c.cut-outcome.ensures)
+
+pub returns-clause-least : goal.returns-clause-least
+returns-clause-least c =
+    cut-least c.args.net.now (all_unserved c.args.net.now c.charge.new.outcome) c.charge.new.outcome.cut
+    c.generate.ensures.valid.shape (cut-stays c)
