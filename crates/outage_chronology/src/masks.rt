@@ -21,8 +21,7 @@ fn is_below(word: u32, threshold: u32) -> bool
 fn is_above(word: u32, threshold: u32) -> bool
     ensures { IsTrue result → is_below word threshold ≡ false }
 {
-    // Halves have no first bit, and so are compared as signed numbers, which is what processors do with many
-    // at once.
+    // Halves, since they have no first bit: a processor that compares many numbers at once takes them as signed.
     word >> 1 > threshold >> 1
 }
 
@@ -96,7 +95,7 @@ pub(crate) fn set_all_up(masks: &mut [u32])
 }
 
 /// So many components are looked at before any of them is changed.
-const LOT: usize = 32;
+const LOT: usize = 16;
 
 /// Goes on to the next masks, by the words and the thresholds of failure and repair, and lists the places
 /// of the masks that change, ascending. For each component the threshold of its state is kept, so that a lot
@@ -135,7 +134,7 @@ pub(crate) fn go_on(
     };
     while from < masks.len() {
         let to = masks.len().min(from + LOT);
-        if any_below(&words[from..to], &thresholds[from..to]) {
+        if !are_above(&words[from..to], &thresholds[from..to]) {
             for at in from..to {
                 if is_below(words[at], thresholds[at]) {
                     let mask = !masks[at];

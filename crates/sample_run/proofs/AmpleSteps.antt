@@ -52,10 +52,10 @@ covered-none system up energies hour needs size =
     no-less : (z : ℕ) → z < 0 → ⊥
     no-less z below = omega (arith, below)
 
-pub needs-size : (system : SystemParts) (up : NumberSet) (energies : List ℕ) (hour : ℕ) (needs : List ℕ) (zones devices : ℕ)
+pub needs-size : (system : SystemParts) (up : NumberSet) (energies : List ℕ) (hour : ℕ) {needs : List ℕ} {zones devices : ℕ}
     → AreCovered (network_of system up energies hour) needs zones devices
     → length needs ≡ zone_count system
-needs-size system up energies hour needs zones devices so_far = so_far.size ∙ zones-is system up energies hour
+needs-size system up energies hour {needs} {zones} {devices} so_far = so_far.size ∙ zones-is system up energies hour
 
 pub zone-covered : (system : SystemParts) (up : NumberSet) (energies : List ℕ) (hour : ℕ) (needs needs' : List ℕ) (zone load supply : ℕ)
     → AreCovered (network_of system up energies hour) needs zone 0
@@ -92,11 +92,11 @@ device-covered system up energies hour needs needs' k zone cap need supply so_fa
     subst (λ (zs : ℕ). AreCovered n needs' zs (k + 1)) zones more
 
 -- what is covered so far is no more than a zone's supply
-pub need-small : (system : SystemParts) (up : NumberSet) (energies : List ℕ) (hour : ℕ) (needs : List ℕ) (devices zone : ℕ)
+pub need-small : (system : SystemParts) (up : NumberSet) (energies : List ℕ) (hour : ℕ) {needs : List ℕ} {devices : ℕ} (zone : ℕ)
     → AreCovered (network_of system up energies hour) needs (zone_count system) devices
     → zone < zone_count system
     → get_or needs zone 0 ≤ zone_supply system up hour zone
-need-small system up energies hour needs devices zone so_far below =
+need-small system up energies hour {needs} {devices} zone so_far below =
     omega (arith, so_far.covered zone below, zone-supply system up energies hour zone below)
 
 all-covered : (system : SystemParts) (up : NumberSet) (energies : List ℕ) (hour : ℕ) (needs : List ℕ) (devices : ℕ)
@@ -108,18 +108,18 @@ all-covered system up energies hour needs devices all so_far =
     subst (λ (zs : ℕ). AreCovered n needs zs (device_count n.shape)) (sym (zones-is system up energies hour))
     (subst (λ (ds : ℕ). AreCovered n needs (zone_count system) ds) (all ∙ sym (devices-count system n (network-shape system up energies hour))) so_far)
 
-pub ample-by : (system : SystemParts) (up : NumberSet) (energies : List ℕ) (hour : ℕ) (needs : List ℕ) (devices : ℕ)
+pub ample-by : (system : SystemParts) (up : NumberSet) (energies : List ℕ) (hour : ℕ) {needs : List ℕ} {devices : ℕ}
     → devices ≡ storage_count system
     → AreCovered (network_of system up energies hour) needs (zone_count system) devices
     → IsAmple (network_of system up energies hour)
-ample-by system up energies hour needs devices all so_far =
+ample-by system up energies hour {needs} {devices} all so_far =
     covered-ample (network_of system up energies hour) needs (all-covered system up energies hour needs devices all so_far)
 
-pub needs-by : (system : SystemParts) (up : NumberSet) (energies : List ℕ) (hour : ℕ) (needs : List ℕ) (devices : ℕ)
+pub needs-by : (system : SystemParts) (up : NumberSet) (energies : List ℕ) (hour : ℕ) {needs : List ℕ} {devices : ℕ}
     → devices ≡ storage_count system
     → AreCovered (network_of system up energies hour) needs (zone_count system) devices
     → AreNeeds (network_of system up energies hour) needs
-needs-by system up energies hour needs devices all so_far =
+needs-by system up energies hour {needs} {devices} all so_far =
     covered-needs (network_of system up energies hour) needs (all-covered system up energies hour needs devices all so_far)
 
 pub charge-by : (system : SystemParts) (up : NumberSet) (energies : List ℕ) (hour : ℕ) (charge : List ℕ) (devices : ℕ)

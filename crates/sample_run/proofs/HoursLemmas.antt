@@ -12,10 +12,9 @@ use Rattle.storage_state.specs.Energy.{caps_if, caps_of}
 use Rattle.storage_state.specs.Holdings.{Holdings, IsWithinCaps, carried_energies, energy_of, start_energies}
 use Rattle.zone_network.specs.Sums.{NumberSet}
 use Rattle.zone_network.specs.Network.{ShapeParts, NetworkParts, IsShape, IsLinkAmong, link_count, device_count, empty_network, discharge_cap_at, charge_cap_at}
-use Rattle.zone_network.specs.Cut.{IsCut}
 use Rattle.sample_totals.specs.declared.outcomes.HourOutcome.{HourOutcome}
 use Rattle.cut_certificate.specs.declared.chains.Chain.{Chain}
-use Rattle.cut_certificate.specs.Chain.{empty_chain, AreSized, Fit, IsAccepted, IsBestOutcome, all_unserved}
+use Rattle.cut_certificate.specs.Chain.{empty_chain, AreSized, Fit, IsAccepted, all_unserved}
 use Rattle.cut_certificate.specs.Least.{IsLeastUnserved}
 use Rattle.hour_dispatch.specs.Settled.{IsSettled}
 use Rattle.hour_dispatch.proofs.AmpleLaws.{settled-best, settled-least}

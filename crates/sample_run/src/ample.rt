@@ -80,9 +80,6 @@ fn clear(amounts: &mut Amounts)
     ensures { amounts.new ≡ zeros (length amounts.old) }
 {
     for at in 0..amounts.len() {
-        // Few aren't 0 already, and few there are.
-        if amounts.get(at) != 0 {
-            amounts.set(at, 0);
-        }
+        amounts.set(at, 0);
     }
 }

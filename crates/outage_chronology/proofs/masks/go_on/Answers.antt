@@ -1,4 +1,4 @@
-use Rattle.std.proofs.Common.{arith, false, ◌≡◌, ◌≤◌, ◌<◌, ◌++◌, ◌∷◌, [], ◌+◌, ◌-◌, length, take, drop, get_or, refl, ap, sym, ◌∙◌, List, ℕ}
+use Rattle.std.proofs.Common.{arith, false, ◌≡◌, ◌≤◌, ◌<◌, ◌++◌, ◌∷◌, [], ◌-◌, length, take, drop, get_or, refl, ap, sym, ◌∙◌, ℕ}
 use Rattle.std.proofs.lemmas.List.{length-take-le, length-drop}
 use Rattle.std.specs.Prelude.{slice_set, vec_capacity}
 use Rattle.std.specs.Int.{w32, bit_not}
@@ -60,7 +60,7 @@ loop-from-preserved c =
     ∙ ap (λ (t : ℕ). is_below (get_or g.words k 0) t) (sym (far.thresholds_rest k past))
     ∙ ap (λ (t : ℕ). is_below (get_or g.words k 0) t) (sym (of-slice c.loop-from.thresholds from to k past below))
     ∙ ap (λ (w : ℕ). is_below w (get_or (take (to - from) (drop from c.loop-from.thresholds)) (k - from) 0)) (sym (of-slice g.words from to k past below))
-    ∙ c.any_below-in-loop-from.ensures c.if-any_below-2.false (k - from) (omega (arith, size)) in
+    ∙ c.are_above.ensures c.if-not-are_above.false (k - from) (omega (arith, size)) in
     record {
       within = most;
       far = turned-lot g old c.loop-from.masks c.loop-from.thresholds c.loop-from.changed.items from to on stay (λ k below. c.requires.masks k (omega (arith, most))) (λ k below. c.requires.thresholds k (omega (arith, most))) far;

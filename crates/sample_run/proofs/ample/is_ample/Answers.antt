@@ -1,9 +1,9 @@
-use Rattle.std.proofs.Common.{◌≡◌, ℕ, ◌+◌, ◌<◌, ◌≤◌, Bool, List, length, get_or, ap, sym, ◌∙◌, subst, arith}
+use Rattle.std.proofs.Common.{◌≡◌, ℕ, ◌+◌, ◌<◌, ◌≤◌, Bool, List, length, get_or, ap, sym, ◌∙◌, arith}
 use Rattle.std.specs.Prelude.{slice_set}
 use Rattle.std.proofs.lemmas.List.{length-set}
 use Rattle.std.proofs.lemmas.List.Edits.{fill_by_more}
 use Rattle.system_model.specs.declared.components.Storage.{Storage}
-use Rattle.system_model.specs.System.{SystemParts, zone_count, storage_count, storage_at, hourly_load}
+use Rattle.system_model.specs.System.{SystemParts, storage_count, storage_at, hourly_load}
 use Rattle.outage_chronology.specs.Outages.{storage_component}
 use Rattle.outage_chronology.specs.Standing.{is_up_at}
 use Rattle.storage_state.specs.declared.storages.Caps.{Caps}
@@ -18,7 +18,7 @@ loop-zone-init c = covered-none c.args.system.now (is_up_at c.args.chronology.no
 
 pub returns-then-load-supply-clause-needs_size : goal.returns-then-load-supply-clause-needs_size
 returns-then-load-supply-clause-needs_size c =
-    needs-size c.args.system.now (is_up_at c.args.chronology.now) c.args.storages.now.energies c.args.chronology.now.hour c.loop-zone.needs c.loop-zone.zone 0 c.loop-zone.invariant
+    needs-size _ _ _ _ c.loop-zone.invariant
     ∙ sym c.requires.needs
 
 pub set-requires : goal.set-requires
@@ -28,7 +28,7 @@ set-requires c =
       c.loop-zone-test.true,
       c.loop-zone.auto.zone-end,
       c.zones-zone-end.ensures.count,
-      needs-size c.args.system.now (is_up_at c.args.chronology.now) c.args.storages.now.energies c.args.chronology.now.hour c.loop-zone.needs c.loop-zone.zone 0 c.loop-zone.invariant,
+      needs-size _ _ _ _ c.loop-zone.invariant,
     )
 
 pub loop-zone-preserved : goal.loop-zone-preserved
@@ -44,7 +44,7 @@ get-need-requires c =
     omega (
       arith,
       c.storage-zone.ensures.range.zone,
-      needs-size c.args.system.now (is_up_at c.args.chronology.now) c.args.storages.now.energies c.args.chronology.now.hour c.loop-device.needs (zone_count c.args.system.now) c.loop-device.device c.loop-device.invariant.covered,
+      needs-size _ _ _ _ c.loop-device.invariant.covered,
     )
 
 -- what a zone needs so far is no more than its supply
@@ -54,7 +54,7 @@ covered c =
       arith,
       c.get-need.ensures,
       c.supply-in-loop-device.ensures.value,
-      need-small c.args.system.now (is_up_at c.args.chronology.now) c.args.storages.now.energies c.args.chronology.now.hour c.loop-device.needs c.loop-device.device c.storage-zone.result.zone c.loop-device.invariant.covered c.storage-zone.ensures.range.zone,
+      need-small _ _ _ _ c.storage-zone.result.zone c.loop-device.invariant.covered c.storage-zone.ensures.range.zone,
     )
 
 pub overflow_sub-supply : goal.overflow_sub-supply
@@ -62,7 +62,7 @@ overflow_sub-supply c = covered c
 
 pub returns-then-cap-supply-clause-needs_size : goal.returns-then-cap-supply-clause-needs_size
 returns-then-cap-supply-clause-needs_size c =
-    needs-size c.args.system.now (is_up_at c.args.chronology.now) c.args.storages.now.energies c.args.chronology.now.hour c.loop-device.needs (zone_count c.args.system.now) c.loop-device.device c.loop-device.invariant.covered
+    needs-size _ _ _ _ c.loop-device.invariant.covered
     ∙ sym c.requires.needs
 
 pub set-requires-in-loop-device : goal.set-requires-in-loop-device
@@ -70,7 +70,7 @@ set-requires-in-loop-device c =
     omega (
       arith,
       c.storage-zone.ensures.range.zone,
-      needs-size c.args.system.now (is_up_at c.args.chronology.now) c.args.storages.now.energies c.args.chronology.now.hour c.loop-device.needs (zone_count c.args.system.now) c.loop-device.device c.loop-device.invariant.covered,
+      needs-size _ _ _ _ c.loop-device.invariant.covered,
     )
 
 pub loop-device-preserved : goal.loop-device-preserved
@@ -90,7 +90,7 @@ loop-device-preserved c =
       covered =
           device-covered system up energies c.args.chronology.now.hour c.loop-device.needs c.set-in-loop-device.new.self device c.storage-zone.result.zone c.caps-cap.result.charge (c.get-need.result + c.caps-cap.result.charge) c.supply-in-loop-device.result
           c.loop-device.invariant.covered among c.storage-zone.ensures.range.zone (ap (λ (s : Storage). s.zone) c.storage-zone.ensures.value) cap_is
-          (ap (λ (need : ℕ). need + c.caps-cap.result.charge) c.get-need.ensures) c.supply-in-loop-device.ensures.value (omega (arith, c.if-cap-supply.false, c.get-need.ensures, c.supply-in-loop-device.ensures.value, need-small system up energies c.args.chronology.now.hour c.loop-device.needs device c.storage-zone.result.zone c.loop-device.invariant.covered c.storage-zone.ensures.range.zone)) c.set-in-loop-device.ensures;
+          (ap (λ (need : ℕ). need + c.caps-cap.result.charge) c.get-need.ensures) c.supply-in-loop-device.ensures.value (omega (arith, c.if-cap-supply.false, c.get-need.ensures, c.supply-in-loop-device.ensures.value, need-small _ _ _ _ c.storage-zone.result.zone c.loop-device.invariant.covered c.storage-zone.ensures.range.zone)) c.set-in-loop-device.ensures;
       charge_size = ap length c.set-in-loop-device-2.ensures ∙ length-set c.loop-device.charge device _ ∙ c.loop-device.invariant.charge_size;
       charge =
           λ k below.
@@ -103,11 +103,11 @@ last-device c = omega (arith, c.loop-device-test.false, c.loop-device.auto.devic
 
 pub returns-clause-ample : goal.returns-clause-ample
 returns-clause-ample c is =
-    ample-by c.args.system.now (is_up_at c.args.chronology.now) c.args.storages.now.energies c.args.chronology.now.hour c.loop-device.needs c.loop-device.device (last-device c) c.loop-device.invariant.covered
+    ample-by _ _ _ _ (last-device c) c.loop-device.invariant.covered
 
 pub returns-clause-needs : goal.returns-clause-needs
 returns-clause-needs c is =
-    needs-by c.args.system.now (is_up_at c.args.chronology.now) c.args.storages.now.energies c.args.chronology.now.hour c.loop-device.needs c.loop-device.device (last-device c) c.loop-device.invariant.covered
+    needs-by _ _ _ _ (last-device c) c.loop-device.invariant.covered
 
 pub returns-clause-charge : goal.returns-clause-charge
 returns-clause-charge c is =
@@ -115,5 +115,5 @@ returns-clause-charge c is =
 
 pub returns-clause-needs_size : goal.returns-clause-needs_size
 returns-clause-needs_size c =
-    needs-size c.args.system.now (is_up_at c.args.chronology.now) c.args.storages.now.energies c.args.chronology.now.hour c.loop-device.needs (zone_count c.args.system.now) c.loop-device.device c.loop-device.invariant.covered
+    needs-size _ _ _ _ c.loop-device.invariant.covered
     ∙ sym c.requires.needs

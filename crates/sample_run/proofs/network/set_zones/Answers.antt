@@ -1,4 +1,4 @@
-use Rattle.std.proofs.Common.{ℕ, ◌<◌, ap, arith}
+use Rattle.std.proofs.Common.{ap, arith}
 use Rattle.std.proofs.lemmas.List.FromFn.{fill_by_all}
 use Rattle.system_model.specs.System.{zone_count, hourly_load}
 use Rattle.outage_chronology.specs.Standing.{is_up_at}

@@ -1,13 +1,10 @@
-use Rattle.std.proofs.Common.{◌≡◌, List, ℕ, ap, sym, ◌∙◌, subst}
-use Rattle.system_model.specs.System.{SystemParts}
-use Rattle.outage_chronology.specs.Outages.{is_up}
+use Rattle.std.proofs.Common.{ap, sym, ◌∙◌, subst}
 use Rattle.outage_chronology.specs.Standing.{is_up_at}
-use Rattle.zone_network.specs.Network.{ShapeParts, NetworkParts}
-use Rattle.sample_totals.specs.declared.outcomes.HourOutcome.{HourOutcome}
+use Rattle.zone_network.specs.Network.{NetworkParts}
 use Rattle.cut_certificate.specs.declared.chains.Chain.{Chain}
 use Rattle.hour_dispatch.specs.Ample.{ample_chain}
 use Rattle.hour_dispatch.specs.Settled.{IsSettled}
-use Rattle.sample_run.specs.HourNetwork.{shape_of, network_of}
+use Rattle.sample_run.specs.HourNetwork.{network_of}
 use Rattle.sample_run.specs.Moments.{Moment}
 use Rattle.sample_run.proofs.AmpleSteps.{settled-still}
 use Rattle.sample_run.proofs.HoursLemmas.{network-shape, sized-again, kept-dispatched, as-seen}

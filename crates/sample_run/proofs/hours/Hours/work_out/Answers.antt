@@ -1,11 +1,9 @@
 use Rattle.std.proofs.Common.{◌≡◌, List, ℕ, ap, refl, sym, ◌∙◌, subst}
-use Rattle.system_model.specs.System.{SystemParts, IsValid}
+use Rattle.system_model.specs.System.{IsValid}
 use Rattle.outage_chronology.specs.Outages.{is_up}
-use Rattle.cut_certificate.specs.declared.chains.Chain.{Chain}
 use Rattle.cut_certificate.specs.Chain.{all_unserved}
 use Rattle.cut_certificate.specs.Least.{IsLeastUnserved}
 use Rattle.sample_totals.specs.declared.outcomes.HourOutcome.{HourOutcome}
-use Rattle.hour_dispatch.specs.Settled.{IsSettled}
 use Rattle.sample_run.specs.HourNetwork.{network_of}
 use Rattle.sample_run.specs.Run.{IsHour}
 use Rattle.sample_run.specs.Moments.{Moment}
