@@ -203,6 +203,32 @@ at-more system seed sample count run moment before result result' part at same i
           ∙ ap (λ (z : ℕ). tally_of (hour_count system) z (run ++ moment.outcome ∷ [])) zones;
     }
 
+-- where the first hour of a sample stands, and where the one after an hour does
+pub stands-first : (system : SystemParts) (seed sample : ℕ) (old moment : Moment)
+    → old.system ≡ system
+    → old.seed ≡ seed
+    → moment ≡ record old { sample = sample; hour = 0; energies = moment.outcome.energy; outcome = moment.outcome }
+    → Stands system seed sample 0 moment
+stands-first system seed sample old moment sys_is seed_is at =
+    record {
+      system_is = ap (λ (m : Moment). m.system) at ∙ sys_is;
+      seed_is = ap (λ (m : Moment). m.seed) at ∙ seed_is;
+      sample_is = ap (λ (m : Moment). m.sample) at;
+      hour_is = ap (λ (m : Moment). m.hour) at;
+    }
+
+pub stands-next : (system : SystemParts) (seed sample hour : ℕ) (old moment : Moment)
+    → Stands system seed sample hour old
+    → moment ≡ record old { hour = old.hour + 1; energies = moment.outcome.energy; outcome = moment.outcome }
+    → Stands system seed sample (suc hour) moment
+stands-next system seed sample hour old moment stood at =
+    record {
+      system_is = ap (λ (m : Moment). m.system) at ∙ stood.system_is;
+      seed_is = ap (λ (m : Moment). m.seed) at ∙ stood.seed_is;
+      sample_is = ap (λ (m : Moment). m.sample) at ∙ stood.sample_is;
+      hour_is = ap (λ (m : Moment). m.hour) at ∙ ap (λ (h : ℕ). h + 1) stood.hour_is ∙ add-one hour;
+    }
+
 -- the first hour
 pub at-first : (system : SystemParts) (seed sample : ℕ) (old moment : Moment) (result result' : Tally)
     → old.system ≡ system
@@ -219,12 +245,7 @@ at-first system seed sample old moment result result' sys_is seed_is at is least
     subst (IsAt system seed sample moment result') one
     (at-more system seed sample 0 [] moment (start_energies moment.system) result result'
     (part-start system seed sample)
-    (record {
-      system_is = ap (λ (m : Moment). m.system) at ∙ sys_is;
-      seed_is = ap (λ (m : Moment). m.seed) at ∙ seed_is;
-      sample_is = ap (λ (m : Moment). m.sample) at;
-      hour_is = sym hour_is;
-    })
+    (stands-first system seed sample old moment sys_is seed_is at)
     (ap start_energies (ap (λ (m : Moment). m.system) at ∙ sys_is))
     (subst (λ (h : ℕ). IsHour moment.system (up_in moment) (start_energies moment.system) h moment.outcome) hour_is is)
     (subst (λ (h : ℕ). IsLeastUnserved (network_of moment.system (up_in moment) (start_energies moment.system) h) (all_unserved (network_of moment.system (up_in moment) (start_energies moment.system) h) moment.outcome)) hour_is least)
@@ -243,12 +264,7 @@ at-next system seed sample zero old moment result result' some was at is least a
 at-next system seed sample (suc hour) old moment result result' some was at is least adds =
     let stood = was.stands hour (omega arith) in
     at-more system seed sample (suc hour) was.run moment (carried_energies old.system old.energies) result result' was.part
-    (record {
-      system_is = ap (λ (m : Moment). m.system) at ∙ stood.system_is;
-      seed_is = ap (λ (m : Moment). m.seed) at ∙ stood.seed_is;
-      sample_is = ap (λ (m : Moment). m.sample) at ∙ stood.sample_is;
-      hour_is = ap (λ (m : Moment). m.hour) at ∙ ap (λ (h : ℕ). h + 1) stood.hour_is ∙ add-one hour;
-    })
+    (stands-next system seed sample hour old moment stood at)
     (ap (λ (s : SystemParts). carried_energies s old.energies) stood.system_is ∙ was.next)
     is least (ap (λ (m : Moment). m.energies) at) was.result_is adds
 

@@ -13,7 +13,7 @@ use Rattle.sample_run.specs.Run.{IsHour, energies_before}
 use Rattle.sample_run.specs.Moments.{Moment, up_in}
 use Rattle.sample_run.specs.Trace.{AreFirstHours, with_lines, with_line_before, HasLines, HasBroken}
 use Rattle.sample_run.proofs.RunLaws.{run-only}
-use Rattle.sample_run.proofs.RunSteps.{Stands, IsPart, Leaves, part-start, part-more, hour-shown, least-shown, at-end}
+use Rattle.sample_run.proofs.RunSteps.{Stands, IsPart, Leaves, part-start, part-more, hour-shown, least-shown, at-end, stands-first, stands-next}
 
 -- no line, and one line more
 lines-none : (seen : Seen) → with_lines [] seen ≡ seen
@@ -84,12 +84,7 @@ next-first system seed sample old moment before sys_is seed_is at is least =
     let hour_is : 0 ≡ moment.hour = sym (ap (λ (m : Moment). m.hour) at) in
     next-more system seed sample 0 [] moment (start_energies moment.system) before before
     (part-start system seed sample)
-    (record {
-      system_is = ap (λ (m : Moment). m.system) at ∙ sys_is;
-      seed_is = ap (λ (m : Moment). m.seed) at ∙ seed_is;
-      sample_is = ap (λ (m : Moment). m.sample) at;
-      hour_is = sym hour_is;
-    })
+    (stands-first system seed sample old moment sys_is seed_is at)
     (ap start_energies (ap (λ (m : Moment). m.system) at ∙ sys_is))
     (subst (λ (h : ℕ). IsHour moment.system (up_in moment) (start_energies moment.system) h moment.outcome) hour_is is)
     (subst (λ (h : ℕ). IsLeastUnserved (network_of moment.system (up_in moment) (start_energies moment.system) h) (all_unserved (network_of moment.system (up_in moment) (start_energies moment.system) h) moment.outcome)) hour_is least)
@@ -107,12 +102,7 @@ next-next system seed sample zero old moment before now some was at is least = a
 next-next system seed sample (suc hour) old moment before now some was at is least =
     let stood = was.stands hour (omega arith) in
     next-more system seed sample (suc hour) was.run moment (carried_energies old.system old.energies) before now was.part
-    (record {
-      system_is = ap (λ (m : Moment). m.system) at ∙ stood.system_is;
-      seed_is = ap (λ (m : Moment). m.seed) at ∙ stood.seed_is;
-      sample_is = ap (λ (m : Moment). m.sample) at ∙ stood.sample_is;
-      hour_is = ap (λ (m : Moment). m.hour) at ∙ ap (λ (h : ℕ). h + 1) stood.hour_is ∙ add-one hour;
-    })
+    (stands-next system seed sample hour old moment stood at)
     (ap (λ (s : SystemParts). carried_energies s old.energies) stood.system_is ∙ was.next)
     is least (ap (λ (m : Moment). m.energies) at) was.lines
 

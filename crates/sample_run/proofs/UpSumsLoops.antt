@@ -291,6 +291,15 @@ followed-all system standing sums items index all has =
           ∙ sym (until-later standing has.until k past)
     ]) has.are
 
+-- and so is the item that stands at a place of what changed
+pub ready-at : (system : SystemParts) (standing : Standing) (sums : UpSums) (items : List ℕ) (index : ℕ)
+    → items ≡ changed_at standing
+    → index < length items
+    → HasFollowed system standing sums (changed_at standing) index
+    → IsReadyToTurn system standing sums (changed_at standing) index (get_or items index 0)
+ready-at system standing sums items index is below =
+    followed-ready system standing sums (changed_at standing) index (get_or items index 0) (omega (arith, ap length is, below)) (ap (λ (xs : List ℕ). get_or xs index 0) is)
+
 -- ---- what lines carry, over one change and more
 pub carry-more : (one two three : UpSums) (a b : Bool)
     → (a ≡ false → CarrySame one two)
