@@ -10,7 +10,7 @@ use Rattle.campaign_core.specs.History.{entry}
 use Rattle.campaign_core.proofs.HistoryLaws.{prefix_self, prefix_trans, prefix_append}
 use Rattle.turn_book.specs.declared.view.View.{View}
 use Rattle.campaign.specs.Passes.{Saw, Says, Moves}
-use Rattle.campaign_workers.proofs.WorkLaws.{same_then, same_says, seen_says, moved_saw}
+use Rattle.campaign_workers.proofs.WorkLaws.{same_then, same_saw, same_says, seen_says, moved_saw}
 use Rattle.campaign_console.specs.LineTexts.{made}
 use Rattle.campaign_console.specs.Asks.{Adds}
 
@@ -26,14 +26,7 @@ module _ {B : Type 0} where
   adds_saw v w saw = record {
     calls = ap (λ (x : View B). x.calls) saw.view ∙ sym (append-nil v.calls);
     seen = subst (λ (x : View B). IsPrefix v.seen x.seen) (sym saw.view) (prefix_append v.seen saw.between);
-    same = record {
-      number = ap (λ (x : View B). x.number) saw.view;
-      made = ap (λ (x : View B). x.made) saw.view;
-      joined = ap (λ (x : View B). x.joined) saw.view;
-      holds = ap (λ (x : View B). x.holds) saw.view;
-      target = ap (λ (x : View B). x.target) saw.view;
-      block = ap (λ (x : View B). x.block) saw.view;
-    };
+    same = same_saw v w saw;
   }
 
   pub adds_moved : (v : View B) (before after : Gate) (w : View B) → Moves v before after w → Adds [] v w

@@ -26,6 +26,7 @@ use Rattle.turn_book.specs.Views.{IsSound}
 use Rattle.turn_book.proofs.SoundLaws.{own_deposit, gate_seen}
 use Rattle.campaign.specs.Passes.{IsFirst, IsWhole}
 use Rattle.campaign_workers.specs.Working.{is_work, AreWork}
+use Rattle.campaign_workers.proofs.StandLaws.{work_calls}
 use Rattle.sample_totals.specs.Totals.{Sheet}
 use Rattle.sample_run.specs.SampleWorks.{WorkTerms, StandsFor}
 use Rattle.report_text.specs.GateText.{interim_text}
@@ -59,15 +60,6 @@ first_same (suc n) ds same =
 no_range : (rs : List SampleRange) → ((r : SampleRange) → has_range rs r ≡ false) → rs ≡ []
 no_range [] none = refl
 no_range (r ∷ rs) none = absurd (false≢true (sym (none r) ∙ (has-cons r rs r ∙ or_left (is_same r r) (has_range rs r) (is_same-self r))))
-
-work_or : (b : Bool) (e : Entry) (h : List Entry) → is_work e.call ≡ true → AreWork h → AreWork (cond b (e ∷ h) h)
-work_or true e h one rest = (one, rest)
-work_or false e h one rest = rest
-
-work_calls : (n : ℕ) (h : List Entry) → AreWork h → AreWork (calls_of n h)
-unfolding calls_of
-work_calls n [] w = tt
-work_calls n (e ∷ h) w = work_or (e.caller == n) e (calls_of n h) w.0 (work_calls n h w.1)
 
 none_out : {B : Type 0} (v : View B) → IsSound v → IsWhole v → ((r : SampleRange) → has_range (out_of v.calls) r ≡ false) → out_of v.seen ≡ []
 none_out v sound whole none = no_range (out_of v.seen) (λ r. false_from_ne_true (has_range (out_of v.seen) r) (out_of_none r))

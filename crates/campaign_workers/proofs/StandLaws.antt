@@ -63,7 +63,7 @@ work_or : (b : Bool) (e : Entry) (h : List Entry) → is_work e.call ≡ true �
 work_or true e h one rest = (one, rest)
 work_or false e h one rest = rest
 
-work_calls : (n : ℕ) (h : List Entry) → AreWork h → AreWork (calls_of n h)
+pub work_calls : (n : ℕ) (h : List Entry) → AreWork h → AreWork (calls_of n h)
 unfolding calls_of
 work_calls n [] w = tt
 work_calls n (e ∷ h) w = work_or (e.caller == n) e (calls_of n h) w.0 (work_calls n h w.1)

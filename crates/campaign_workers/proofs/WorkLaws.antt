@@ -14,7 +14,7 @@ use Rattle.campaign_core.proofs.Totals.{times-append}
 use Rattle.campaign_core.proofs.WithoutLaws.{has-one, has-append, has-without, has_times, first_inside}
 use Rattle.campaign_core.proofs.HistoryLaws.{ranges_push, deposits_push, prefix_self, prefix_trans, prefix_append}
 use Rattle.turn_book.specs.declared.view.View.{View}
-use Rattle.turn_book.specs.Views.{IsSameSeat, IsSound}
+use Rattle.turn_book.specs.Views.{IsSameSeat, IsSound, with_seen, with_call}
 use Rattle.campaign.specs.Passes.{Saw, Says, Moves}
 use Rattle.campaign.proofs.ApartLaws.{own_apart, own_filled}
 use Rattle.campaign_workers.specs.declared.working.WorkEnd.{WorkEnd}
@@ -39,25 +39,18 @@ module _ {B : Type 0} where
     block = t.block ∙ s.block;
   }
 
-  pub same_says : (v : View B) (call : Call) (reply : Reply) (w : View B) → Says v call reply w → IsSameSeat v w
-  same_says v call reply w says = record {
-    number = ap (λ (x : View B). x.number) says.view;
-    made = ap (λ (x : View B). x.made) says.view;
-    joined = ap (λ (x : View B). x.joined) says.view;
-    holds = ap (λ (x : View B). x.holds) says.view;
-    target = ap (λ (x : View B). x.target) says.view;
-    block = ap (λ (x : View B). x.block) says.view;
-  }
+  -- the seat is the same whatever a pass saw, and whatever it called
+  pub same_saw : (v w : View B) → Saw v w → IsSameSeat v w
+  same_saw v w saw =
+      let same : IsSameSeat v (with_seen v (v.seen ++ saw.between)) =
+      record { number = refl; made = refl; joined = refl; holds = refl; target = refl; block = refl } in
+      subst (IsSameSeat v) (sym saw.view) same
 
-  same_saw : (v w : View B) → Saw v w → IsSameSeat v w
-  same_saw v w saw = record {
-    number = ap (λ (x : View B). x.number) saw.view;
-    made = ap (λ (x : View B). x.made) saw.view;
-    joined = ap (λ (x : View B). x.joined) saw.view;
-    holds = ap (λ (x : View B). x.holds) saw.view;
-    target = ap (λ (x : View B). x.target) saw.view;
-    block = ap (λ (x : View B). x.block) saw.view;
-  }
+  pub same_says : (v : View B) (call : Call) (reply : Reply) (w : View B) → Says v call reply w → IsSameSeat v w
+  same_says v call reply w says =
+      let same : IsSameSeat v (with_call v (v.seen ++ says.between) (entry v.number call reply)) =
+      record { number = refl; made = refl; joined = refl; holds = refl; target = refl; block = refl } in
+      subst (IsSameSeat v) (sym says.view) same
 
   -- what a pass had seen begins what it has seen after a call
   pub seen_says : (v : View B) (call : Call) (reply : Reply) (w : View B) → Says v call reply w → IsPrefix v.seen w.seen
@@ -78,7 +71,7 @@ module _ {B : Type 0} where
   pub moved_saw : (v : View B) (before after : Gate) (w : View B) → Moves v before after w → Saw v w
   moved_saw v before after w moves = record {
     between = moves.first ++ moves.second;
-    view = moves.view ∙ ap (λ h. Rattle.turn_book.specs.Views.with_seen v h) (append_assoc v.seen moves.first moves.second);
+    view = moves.view ∙ ap (λ h. with_seen v h) (append_assoc v.seen moves.first moves.second);
   }
 
   -- ---- stretches
