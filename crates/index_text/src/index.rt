@@ -9,6 +9,9 @@ use decimal_text::put_whole;
 use fixed_interval::Enclosure;
 use ra_base::{OutOfMemory, Text};
 
+/// The bytes of an hour's line, but for hours of very much load.
+const HOUR_BYTES: usize = 128;
+
 /// Appends the text of the indices: the number of hours and the peak, the expected hours of lost load
 /// (LOLE), the expected unserved energy in MWh (EUE), and for each hour its need in MW, the probability
 /// that less is in service and the expected unserved MW. Without memory the text stays as it was.
@@ -18,6 +21,8 @@ pub fn put_index(out: &mut Text, analysis: &Analysis) -> Result<(), OutOfMemory>
     ensures err { OnErr result (out.new ≡ out.old) }
 {
     let mut text = out.fresh();
+    // Room for all lines at once, since a text that grows is copied each time.
+    text.reserve(analysis.loads().hours() as usize * HOUR_BYTES)?;
     put_head(&mut text, analysis)?;
     put_hours(&mut text, analysis)?;
     out.append(text)
