@@ -6,7 +6,7 @@ use Rattle.std.proofs.lemmas.List.{get_or-set_same, get_or-set_other, length-app
 use Rattle.std.specs.Int.{w32, bit_not}
 use Rattle.std.proofs.lemmas.Bool.{cases_eq, cases_lt, false≢true}
 use Rattle.outage_chronology.specs.Masks.{up_mask, says_up, is_below, threshold_of, AreOfStates, turns, turned}
-use Rattle.outage_chronology.proofs.Passing.{passing_pushed, passing_same}
+use Rattle.ra_base.proofs.Passing.{passing_pushed, passing_same}
 
 pub says-mask : (up : Bool) → says_up (up_mask up) ≡ up
 says-mask true = refl

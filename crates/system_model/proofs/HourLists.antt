@@ -24,7 +24,7 @@ get_or-hours_of zones hours load variable hour d below =
     below (omega arith)
 
 -- a row that was there before more amounts came
-row_of-before : (zones hours : ℕ) (amounts more : List ℕ) (hour : ℕ)
+pub row_of-before : (zones hours : ℕ) (amounts more : List ℕ) (hour : ℕ)
     → length amounts ≡ hours * zones
     → hour < hours
     → row_of zones (amounts ++ more) hour ≡ row_of zones amounts hour
@@ -35,7 +35,7 @@ row_of-before zones hours amounts more hour size below =
     ∙ take-append-le zones (drop (hour * zones) amounts) more (omega (arith, length-drop (hour * zones) amounts))
 
 -- the row that came last
-row_of-last : (zones hours : ℕ) (amounts more : List ℕ)
+pub row_of-last : (zones hours : ℕ) (amounts more : List ℕ)
     → length amounts ≡ hours * zones
     → length more ≡ zones
     → row_of zones (amounts ++ more) hours ≡ more

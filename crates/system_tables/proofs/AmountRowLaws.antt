@@ -1,9 +1,10 @@
 use Rattle.std.proofs.Common.{◌≡◌, ℕ, ◌+◌, ◌*◌, ◌<◌, ◌≤◌, List, [], ◌∷◌, ◌++◌, length, get_or, take, drop, map, refl, ap, sym, ◌∙◌, arith}
 use Rattle.std.proofs.Math.Nat.{mul-le-mul_right}
 use Rattle.std.specs.List.{range_with_len}
-use Rattle.std.proofs.lemmas.List.{drop_at, take-append-le, drop-append-le, length-drop, length-take-le, get_or-take, get_or-drop, take_all, take_more, same_lists}
+use Rattle.std.proofs.lemmas.List.{length-drop, length-take-le, get_or-take, get_or-drop, take_more, same_lists}
 use Rattle.std.proofs.lemmas.List.FromFn.{length-map-range_with_len, get_or-map-range_with_len, map-range_with_len_more}
 use Rattle.system_model.specs.Parts.{row_of}
+use Rattle.system_model.proofs.HourLists.{row_of-before, row_of-last}
 use Rattle.system_tables.specs.AmountRows.{rows_of}
 
 pub rows_of_none : (width : ℕ) (amounts : List ℕ) → rows_of width 0 amounts ≡ []
@@ -20,25 +21,6 @@ pub get_or-rows_of : (width count : ℕ) (amounts : List ℕ) (row : ℕ) (d : L
 unfolding rows_of
 get_or-rows_of width count amounts row d below =
     get_or-map-range_with_len (row_of width amounts) 0 count row row d below (omega arith)
-
--- a row that was there before more amounts came
-row_of-before : (width count : ℕ) (amounts more : List ℕ) (row : ℕ)
-    → length amounts ≡ count * width
-    → row < count
-    → row_of width (amounts ++ more) row ≡ row_of width amounts row
-row_of-before width count amounts more row size below =
-    let room : (row + 1) * width ≤ count * width = mul-le-mul_right width (omega arith) in
-    let whole : row * width + width ≤ length amounts = omega arith in
-    ap (take width) (drop-append-le (row * width) amounts more (omega arith))
-    ∙ take-append-le width (drop (row * width) amounts) more (omega (arith, length-drop (row * width) amounts))
-
--- the row that came last
-row_of-last : (width count : ℕ) (amounts more : List ℕ)
-    → length amounts ≡ count * width
-    → length more ≡ width
-    → row_of width (amounts ++ more) count ≡ more
-row_of-last width count amounts more size wide =
-    ap (take width) (drop_at amounts more (count * width) size) ∙ take_all width more (omega arith)
 
 pub rows_of-push : (width count : ℕ) (amounts more : List ℕ)
     → length amounts ≡ count * width

@@ -1,29 +1,12 @@
-use Rattle.std.proofs.Common.{◌≡◌, ℕ, zero, suc, add-one, ◌+◌, ◌<◌, inl, inr, Bool, true, false, cond, List, [], ◌∷◌, ◌++◌, filter, ◌==◌, ap, sym, ◌∙◌, subst, arith, append-nil, map}
+use Rattle.std.proofs.Common.{◌≡◌, ℕ, zero, suc, add-one, ◌+◌, ◌<◌, inl, inr, Bool, true, false, List, [], ◌∷◌, ◌++◌, filter, ◌==◌, ap, sym, ◌∙◌, subst, arith, map}
 use Rattle.std.specs.Prelude.{All, Contains}
 use Rattle.std.specs.List.{range_with_len}
-use Rattle.std.proofs.lemmas.List.{map-id}
-use Rattle.std.proofs.lemmas.List.FromFn.{map-range_with_len_more, filter_of_map_range_with_len_more}
+use Rattle.std.proofs.lemmas.List.FromFn.{map-range_with_len_more}
 use Rattle.std.proofs.lemmas.List.Elements.{All-nil, All-push, All-weaker, Contains-push, Contains-append_left}
-use Rattle.std.proofs.lemmas.Bool.{cond-true, cond-false, cases_Bool, cases_eq, eq-eqb, or_left, or_right}
+use Rattle.std.proofs.lemmas.Bool.{cases_Bool, cases_eq, eq-eqb, or_left, or_right}
+use Rattle.ra_base.proofs.Passing.{passing_pushed, passing_same}
 use Rattle.zone_network.specs.declared.links.Link.{Link}
 use Rattle.zone_network.specs.Network.{ShapeParts, link_count, from_zone, to_zone, touches_at, links_of, touching}
-
--- a loop's step over the numbers that pass
-pub passing_more : (p : ℕ → Bool) (n : ℕ)
-    → filter p (range_with_len 0 (n + 1)) ≡ filter p (range_with_len 0 n) ++ cond (p n) (n ∷ []) []
-passing_more p n =
-    ap (filter p) (sym (map-id (range_with_len 0 (n + 1))))
-    ∙ filter_of_map_range_with_len_more p (λ (x : ℕ). x) 0 n n (omega arith)
-    ∙ ap (λ (xs : List ℕ). filter p xs ++ cond (p n) (n ∷ []) []) (map-id (range_with_len 0 n))
-
-pub passing_pushed : (p : ℕ → Bool) (n : ℕ) → p n ≡ true → filter p (range_with_len 0 (n + 1)) ≡ filter p (range_with_len 0 n) ++ n ∷ []
-passing_pushed p n h =
-    passing_more p n ∙ ap (λ (xs : List ℕ). filter p (range_with_len 0 n) ++ xs) (cond-true (p n) (n ∷ []) [] h)
-
-pub passing_same : (p : ℕ → Bool) (n : ℕ) → p n ≡ false → filter p (range_with_len 0 (n + 1)) ≡ filter p (range_with_len 0 n)
-passing_same p n h =
-    passing_more p n ∙ ap (λ (xs : List ℕ). filter p (range_with_len 0 n) ++ xs) (cond-false (p n) (n ∷ []) [] h)
-    ∙ append-nil (filter p (range_with_len 0 n))
 
 -- the numbers below n that pass are below n
 pub passing_below : (p : ℕ → Bool) (n : ℕ) → All (λ k. k < n) (filter p (range_with_len 0 n))

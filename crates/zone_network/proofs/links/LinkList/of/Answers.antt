@@ -2,7 +2,7 @@ use Rattle.std.proofs.Common.{◌≡◌, ◌++◌, ◌∷◌, ◌||◌, ◌==◌
 use Rattle.std.proofs.lemmas.List.{get_or_default}
 use Rattle.zone_network.specs.Network.{no_link, touches_at}
 use Rattle.zone_network.specs.declared.links.Link.{Link}
-use Rattle.zone_network.proofs.LinkLists.{passing_pushed, passing_same}
+use Rattle.ra_base.proofs.Passing.{passing_pushed, passing_same}
 use Rattle.zone_network.proofs.links.LinkList.of.Goals as goal
 use Rattle.zone_network.proofs.links.LinkList.of.Goals.{then-touches+in_ok-push, else-touches}
 
