@@ -23,7 +23,11 @@ impl Model for RefusingPlain {
 
     ghost Value = { RefusingText };
 
-    ghost view = { λ recorder. record { at = recorder.at; refusals = recorder.refusals; text = recorder.text } };
+    ghost view = { λ recorder. record {
+      at = recorder.at;
+      refusals = recorder.refusals;
+      text = recorder.text;
+    } };
 }
 
 impl RefusingPlain {

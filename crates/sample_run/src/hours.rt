@@ -107,7 +107,8 @@ impl<'a> Hours<'a> {
     pub fn start(&mut self, sample: u32)
         ensures hour { IsHour self.new.system (up_in self.new) (start_energies self.new.system) 0
             self.new.outcome }
-        ensures least { let n = network_of self.new.system (up_in self.new) (start_energies self.new.system) 0 in
+        ensures least { let n = network_of self.new.system (up_in self.new)
+            (start_energies self.new.system) 0 in
             IsLeastUnserved n (all_unserved n self.new.outcome) }
         ensures at { self.new ≡ record self.old {
           sample = sample;
@@ -173,7 +174,8 @@ impl<'a> Hours<'a> {
 
     /// Writes what the hour where the chronology stands comes to, but for the energies.
     fn dispatch(&mut self)
-        ensures settled { let n = network_of self.new.system (up_in self.new) self.old.energies self.new.hour in
+        ensures settled { let n = network_of self.new.system (up_in self.new) self.old.energies
+            self.new.hour in
             (chain : Chain) × IsSettled n self.new.outcome chain }
         ensures hour { self.new.outcome.hour ≡ self.old.hour }
         ensures at { self.new ≡ record self.old { outcome = self.new.outcome } }

@@ -338,7 +338,8 @@ fn add_zeros(
 ) -> Result<(), OutOfMemory>
     requires few { hours ≤ MOST_HOURS }
     requires none { variables.old ≡ no_rows zones }
-    ensures { OnOk result (variables.new ≡ record (no_rows zones) { rows = replicate hours (replicate zones 0) }) }
+    ensures { OnOk result (variables.new
+        ≡ record (no_rows zones) { rows = replicate hours (replicate zones 0) }) }
 {
     let none = Amounts::zeros(alloc, zones)?;
     for _hour in 0..hours {
@@ -385,7 +386,8 @@ fn push_hours(
     requires size { length variables.now.rows ≡ length loads.now.rows }
     requires loads { AreAmountRows (zone_count draft.old) loads.now }
     requires variables { AreAmountRows (zone_count draft.old) variables.now }
-    ensures { OnOk result (draft.new ≡ record draft.old { hours = hours_of loads.now.rows variables.now.rows }) }
+    ensures { OnOk result (draft.new
+        ≡ record draft.old { hours = hours_of loads.now.rows variables.now.rows }) }
 {
     let mut load = Amounts::zeros(alloc, loads.width())?;
     let mut variable = Amounts::zeros(alloc, variables.width())?;
