@@ -1,3 +1,4 @@
+use super::trace_tests::words_in;
 use adequacy::adequacy;
 use ra_base::{
     MemoryConsole, MemoryShelf, MemorySink, NoPause, Status, TableBytes, TableName, Text,
@@ -15,22 +16,8 @@ const INDEX: &str = "hours 8784 peak 6420 hour 180\nlole low 8.83179281396";
 
 const CREDIT: &str = "credit elcc eue\ntarget low 846.9547099";
 
-const UNIT: &[&str] = &[
-    "credit",
-    "F",
-    "--kind",
-    "elcc",
-    "--measure",
-    "eue",
-    "--capacity",
-    "100",
-    "--failure",
-    "0.001",
-    "--repair",
-    "0.02",
-    "--up-to",
-    "200",
-];
+const UNIT: &str =
+    "credit F --kind elcc --measure eue --capacity 100 --failure 0.001 --repair 0.02 --up-to 200";
 
 fn put(shelf: &mut MemoryShelf, table: TableName, text: &Option<Text>) -> Result<(), Fail> {
     if let Some(text) = text {
@@ -55,19 +42,16 @@ fn shelf_of(alloc: Global, tables: &TableBytes) -> Result<MemoryShelf, Fail> {
 fn written<T: Threads + Wait + Sync>(
     rt: &T,
     alloc: Global,
-    words: &[&str],
+    words: &str,
     shelf: &mut MemoryShelf,
 ) -> Result<MemorySink, Fail> {
-    let mut list = Vec::new(alloc);
-    for word in words {
-        list.push(String::from_str(alloc, word)?)?;
-    }
+    let words = words_in(alloc, words)?;
     let mut lines = MemoryConsole::new(alloc);
     let mut out = MemorySink::new(alloc, 2_000_000)?;
     let mut err = MemorySink::new(alloc, 100)?;
     let mut none: Vec<Box<dyn Recorder>> = Vec::new(alloc);
     let status = adequacy(
-        rt, alloc, &list, shelf, &mut lines, &mut out, &mut err, &NoPause, &mut none,
+        rt, alloc, &words, shelf, &mut lines, &mut out, &mut err, &NoPause, &mut none,
     );
     match status {
         Status::Done => Ok(out),
@@ -80,7 +64,7 @@ fn written<T: Threads + Wait + Sync>(
 fn a_planners_folder(rt: HostRuntime) -> Result<(), Fail> {
     let alloc = rt.alloc();
     let mut shelf = shelf_of(alloc, &make_tables(alloc, 20)?)?;
-    let index = written(&rt, alloc, &["index", "F"], &mut shelf)?;
+    let index = written(&rt, alloc, "index F", &mut shelf)?;
     let bytes = index.bytes();
     let at = INDEX.len();
     assert!(rt; bytes.len() > 200 && bytes.starts_with(INDEX.as_bytes()));

@@ -53,15 +53,13 @@ enum Made {
     Refusing(u32),
 }
 
-// A folder, the options behind the sample's, the recorders, the status, and which recorders are left with which
-// texts.
+// A folder, words, the recorders, the status, and which recorders are left with which texts.
 #[derive(Clone, Copy)]
 struct Case {
     tables: &'static [(TableName, &'static str)],
-    options: &'static [&'static str],
+    words: &'static str,
     made: &'static [Made],
     status: Status,
-    err: &'static str,
     left: &'static [(u8, &'static str)],
 }
 
@@ -131,126 +129,111 @@ const EACH: &[Made] = &[Made::Plain, Made::Shortfall, Made::Storage, Made::Cut];
 const CASES: [Case; 15] = [
     Case {
         tables: ONE_STORE,
-        options: &["--result", "plain"],
+        words: "trace F --sample 0 --result plain",
         made: EACH,
         status: Status::Done,
-        err: "",
         left: &[(1, PLAIN)],
     },
     Case {
         tables: ONE_STORE,
-        options: &["--result", "shortfall"],
+        words: "trace F --sample 0 --result shortfall",
         made: EACH,
         status: Status::Done,
-        err: "",
         left: &[(2, SHORTFALL)],
     },
     Case {
         tables: ONE_STORE,
-        options: &["--result", "storage"],
+        words: "trace F --sample 0 --result storage",
         made: EACH,
         status: Status::Done,
-        err: "",
         left: &[(3, STORAGE)],
     },
     Case {
         tables: ONE_STORE,
-        options: &["--result", "cut"],
+        words: "trace F --sample 0 --result cut",
         made: EACH,
         status: Status::Done,
-        err: "",
         left: &[(4, CUT)],
     },
     // Two stores, of which the first is filled first and emptied first; no hour is short and no zone cut off.
     Case {
         tables: TWO_STORES,
-        options: &["--result", "plain"],
+        words: "trace F --sample 0 --result plain",
         made: EACH,
         status: Status::Done,
-        err: "",
         left: &[(1, CHARGED)],
     },
     Case {
         tables: TWO_STORES,
-        options: &["--result", "shortfall"],
+        words: "trace F --sample 0 --result shortfall",
         made: EACH,
         status: Status::Done,
-        err: "",
         left: &[(2, "")],
     },
     // No result is named: each kind is chosen, an unknown one too, in the order of the list.
     Case {
         tables: ONE_STORE,
-        options: &["--seed", "7"],
+        words: "trace F --sample 0 --seed 7",
         made: &[Made::Cut, Made::Nine, Made::Plain, Made::Plain],
         status: Status::Done,
-        err: "",
         left: &[(4, CUT), (9, NINES), (1, PLAIN), (1, PLAIN)],
     },
     Case {
         tables: ONE_STORE,
-        options: &["--result", "plain"],
+        words: "trace F --sample 0 --result plain",
         made: &[Made::Plain, Made::Nine, Made::Cut, Made::Plain],
         status: Status::Done,
-        err: "",
         left: &[(1, PLAIN), (1, PLAIN)],
     },
     Case {
         tables: ONE_STORE,
-        options: &[],
+        words: "trace F --sample 0",
         made: &[],
         status: Status::Done,
-        err: "",
         left: &[],
     },
     // The third hour is refused, alone and between recorders of which the first has taken it; any other hour
     // behind a recorder that has taken it; and an hour by a recorder that isn't chosen.
     Case {
         tables: ONE_STORE,
-        options: &["--result", "plain"],
+        words: "trace F --sample 0 --result plain",
         made: &[Made::Refusing(2)],
         status: Status::RecorderRefused,
-        err: "recorder refused\n",
         left: &[(1, TWO_HOURS)],
     },
     Case {
         tables: ONE_STORE,
-        options: &[],
+        words: "trace F --sample 0",
         made: &[Made::Plain, Made::Refusing(2), Made::Plain],
         status: Status::RecorderRefused,
-        err: "recorder refused\n",
         left: &[(1, THREE_HOURS), (1, TWO_HOURS), (1, TWO_HOURS)],
     },
     Case {
         tables: ONE_STORE,
-        options: &["--result", "plain"],
+        words: "trace F --sample 0 --result plain",
         made: &[Made::Plain, Made::Refusing(0)],
         status: Status::RecorderRefused,
-        err: "recorder refused\n",
         left: &[(1, ONE_HOUR), (1, "")],
     },
     Case {
         tables: ONE_STORE,
-        options: &["--result", "plain"],
+        words: "trace F --sample 0 --result plain",
         made: &[Made::Plain, Made::Refusing(1)],
         status: Status::RecorderRefused,
-        err: "recorder refused\n",
         left: &[(1, TWO_HOURS), (1, ONE_HOUR)],
     },
     Case {
         tables: ONE_STORE,
-        options: &["--result", "plain"],
+        words: "trace F --sample 0 --result plain",
         made: &[Made::Plain, Made::Refusing(3)],
         status: Status::RecorderRefused,
-        err: "recorder refused\n",
         left: &[(1, PLAIN), (1, THREE_HOURS)],
     },
     Case {
         tables: ONE_STORE,
-        options: &["--result", "storage"],
+        words: "trace F --sample 0 --result storage",
         made: &[Made::Refusing(2), Made::Storage],
         status: Status::Done,
-        err: "",
         left: &[(3, STORAGE)],
     },
 ];
@@ -263,13 +246,10 @@ fn shelf_of(alloc: Global, tables: &[(TableName, &str)]) -> Result<MemoryShelf, 
     Ok(shelf)
 }
 
-fn words_of(alloc: Global, options: &[&str]) -> Result<Vec<String>, Fail> {
+pub(super) fn words_in(alloc: Global, text: &str) -> Result<Vec<String>, Fail> {
     let mut words = Vec::new(alloc);
-    for word in ["trace", "F", "--sample", "0"] {
+    for word in text.split(' ') {
         words.push(String::from_str(alloc, word)?)?;
-    }
-    for option in options {
-        words.push(String::from_str(alloc, option)?)?;
     }
     Ok(words)
 }
@@ -296,7 +276,7 @@ fn traces(rt: HostRuntime) -> Result<(), Fail> {
                 Made::Refusing(at) => Box::new(alloc, RefusingPlain::new(alloc, at))?,
             })?;
         }
-        let words = words_of(alloc, case.options)?;
+        let words = words_in(alloc, case.words)?;
         let mut shelf = shelf_of(alloc, case.tables)?;
         let mut out = MemorySink::new(alloc, 1000)?;
         let mut err = MemorySink::new(alloc, 1000)?;
@@ -312,7 +292,12 @@ fn traces(rt: HostRuntime) -> Result<(), Fail> {
             &mut recorders,
         );
         assert_eq!(rt; status, case.status, "case {number}");
-        assert_eq!(rt; err.bytes(), case.err.as_bytes(), "case {number}");
+        let line = if case.status == Status::Done {
+            ""
+        } else {
+            "recorder refused\n"
+        };
+        assert_eq!(rt; err.bytes(), line.as_bytes(), "case {number}");
         assert_eq!(rt; recorders.len(), case.left.len(), "case {number}");
         let mut wanted = Text::new(alloc);
         for (recorder, (kind, text)) in recorders.iter().zip(case.left) {

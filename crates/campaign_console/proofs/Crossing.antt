@@ -3,15 +3,9 @@ use Rattle.std.proofs.Common.{rules}
 use Rattle.std.proofs.Crossing.{crosses}
 use denote.RattleType.{RattleType}
 use denote.Ref.{NamedLft}
-use mir.Syntax.{ty_unit}
-use denote.Exit.{no}
-use denote.Param.{arg, param}
-use denote.Param.Send.{IsSend, IsSync, sendable, param_send, arg_send}
-use denote.Param.SendFields.{declared_send, declared_sync, as_row_send, owner_send}
+use denote.Param.Send.{IsSend, IsSync, sendable}
+use denote.Param.SendFields.{declared_send, declared_sync, as_row_send}
 use Rattle.campaign_core.proofs.run.Run.TheSendSync as run
-use Rattle.ra_base.proofs.text.Text.TheSendSync as text
-use Rattle.ra_base.specs.contracts.line_log.LineLog as log
-use Rattle.ra_base.specs.contracts.memory_console.MemoryConsole as console
 use Rattle.system_model.proofs.systems.System.TheSendSync as system
 use Rattle.sample_totals.proofs.totals.Totals.TheSendSync as totals
 use Rattle.sample_totals.specs.contracts.totals.Totals as sums
@@ -34,18 +28,3 @@ shared_sync a b P p =
     let b' = book_send in
     let s = system.the_sync in
     declared_sync (shared.the_type a b P) (search (sendable, k, w, b'), (search (sendable, s), (search sendable, (search (sendable, p), tt))))
-
--- a console in memory may go to another thread
-
-log_send : IsSend log.the_row
-log_send = owner_send log.the_type tt (λ d. tt) (λ k x w. tt)
-
-pub console_send : IsSend console.the_row
-console_send =
-    let t = text.the_send in
-    let l = log_send in
-    declared_send console.the_type (search (crosses, sendable), (search (crosses, sendable, t), (search (crosses, sendable), (search sendable, (search sendable, (search (sendable, as_row_send, l), tt))))))
-
--- the same where it is passed for a type parameter
-pub console_arg_send : IsSend (param 1 (arg ty_unit no console.the_row))
-console_arg_send = param_send 1 (arg ty_unit no console.the_row) (arg_send ty_unit no console.the_row console_send)

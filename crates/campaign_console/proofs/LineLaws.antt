@@ -201,60 +201,42 @@ module _ {B : Type 0} where
 
 -- ---- one line
 
+-- a line that came and was answered, whatever became of the answer
+answered_line : (work : WorkTerms) (line : List ℕ) (end : Option LinesEnd) (before now : Outside) (entries : List Entry) (text : List ℕ)
+    → now.heard ≡ before.heard ++ Ok (Some line) ∷ [] → LinesTold before.left now.left (Ok (Some line))
+    → IsLast end [] → MayLack end [] → AllTaken end now.left → Counts (is_read_fault end) before.reads now.reads
+    → IsAnswered work line entries text → IsWritten end before.held now.held text → Counts (is_write_fault end) before.writes now.writes
+    → Answers work end before now entries
+answered_line work line end before now entries text heard told is_last lacks all reads answered written writes = record {
+  lines = line ∷ [];
+  lacking = [];
+  last = [];
+  text = text;
+  heard = heard;
+  is_last = is_last;
+  lacks = lacks;
+  apart = inl refl;
+  taken = taken_came before.left now.left line told;
+  all = all;
+  answered = answered_one work line entries text answered;
+  written = written;
+  reads = reads;
+  writes = writes;
+}
+
 -- a line that came, by what came of it
 line_answers : (work : WorkTerms) (line : List ℕ) (end : Option LinesEnd) (before now : Outside) (entries : List Entry)
     → now.heard ≡ before.heard ++ Ok (Some line) ∷ [] → LinesTold before.left now.left (Ok (Some line)) → now.reads ≡ before.reads
     → Gives work line end before.held now.held before.writes now.writes entries → Answers work end before now entries
-line_answers work line None before now entries heard told reads gives = record {
-  lines = line ∷ [];
-  lacking = [];
-  last = [];
-  text = gives.0;
-  heard = heard;
-  is_last = refl;
-  lacks = refl;
-  apart = inl refl;
-  taken = taken_came before.left now.left line told;
-  all = tt;
-  answered = answered_one work line entries gives.0 gives.1;
-  written = gives.2;
-  reads = reads;
-  writes = gives.3;
-}
-line_answers work line (Some WriteFault) before now entries heard told reads gives = record {
-  lines = line ∷ [];
-  lacking = [];
-  last = [];
-  text = gives.0;
-  heard = heard;
-  is_last = refl;
-  lacks = refl;
-  apart = inl refl;
-  taken = taken_came before.left now.left line told;
-  all = tt;
-  answered = answered_one work line entries gives.0 gives.1;
-  written = gives.2;
-  reads = reads;
-  writes = gives.3;
-}
+line_answers work line None before now entries heard told reads gives =
+    answered_line work line None before now entries gives.0 heard told refl refl tt reads gives.1 gives.2 gives.3
+line_answers work line (Some WriteFault) before now entries heard told reads gives =
+    answered_line work line (Some WriteFault) before now entries gives.0 heard told refl refl tt reads gives.1 gives.2 gives.3
 line_answers work line (Some OutOfMemory) before now entries heard told reads gives =
     elim gives.0 [
-      | inl answered ↦ record {
-        lines = line ∷ [];
-        lacking = [];
-        last = [];
-        text = answered.0;
-        heard = heard;
-        is_last = inl refl;
-        lacks = refl;
-        apart = inl refl;
-        taken = taken_came before.left now.left line told;
-        all = tt;
-        answered = answered_one work line entries answered.0 answered.1;
-        written = part_none before.held now.held answered.0 gives.1;
-        reads = reads;
-        writes = gives.2;
-      }
+      | inl answered ↦
+          answered_line work line (Some OutOfMemory) before now entries answered.0 heard told (inl refl) refl tt reads answered.1
+          (part_none before.held now.held answered.0 gives.1) gives.2
       | inr lacks ↦ record {
         lines = [];
         lacking = line ∷ [];

@@ -75,17 +75,9 @@ pub(crate) fn run_crew<R: Threads + Wait + Sync, W: Work, J: Job<W> + Send, P: P
         ensures room { vec_capacity result.jobs ≡ vec_capacity jobs }
         ensures jobs { All (λ job. J.serves job (work_of campaign.entry.now)) result.jobs.items }
     { run_crew(rt, alloc, campaign, pass, jobs, pause) };
-    let ((other, end, job), rest) = join(rt, worker, others);
-    let Crew {
-        pass: mut keep,
-        jobs: mut free,
-        short,
-    } = rest;
-    campaign.join_pass(&mut keep, other);
-    free.push_reserved(job);
-    Crew {
-        pass: keep,
-        jobs: free,
-        short: short | end.is_short(),
-    }
+    let ((other, end, job), mut rest) = join(rt, worker, others);
+    campaign.join_pass(&mut rest.pass, other);
+    rest.jobs.push_reserved(job);
+    rest.short = rest.short | end.is_short();
+    rest
 }

@@ -20,7 +20,7 @@ struct Grid<'a> {
     devices: &'a [(u8, u32, u32)],
 }
 
-// What somebody says that an hour comes to, with a chain, and whether it is the best.
+// What somebody says that an hour comes to, with the sets of chains that say so, each of which is accepted or not.
 #[derive(Drop)]
 struct Claim<'a> {
     unserved: &'a [u32],
@@ -28,8 +28,7 @@ struct Claim<'a> {
     charge: &'a [u32],
     flows: &'a [i32],
     generation: &'a [u32],
-    sets: &'a [u32],
-    best: bool,
+    chains: &'a [(&'a [u32], bool)],
 }
 
 // A network with what is said of it, and with masks, totals of unserved load, and whether they are tight.
@@ -148,6 +147,7 @@ fn is_accepted(
     shape: &Shape,
     net: &Network,
     claim: &Claim,
+    sets: &[u32],
 ) -> Result<bool, OutOfMemory>
     requires { net.now.shape ≡ shape.now }
 {
@@ -165,8 +165,23 @@ fn is_accepted(
         assert_eq!(rt; chain.flows.get(l), claim.flows[l]);
     }
     put(rt, &mut chain.generation, claim.generation);
-    put_masks(rt, &mut chain.sets, claim.sets, zones);
+    put_masks(rt, &mut chain.sets, sets, zones);
     Ok(check_chain(net, &outcome, &chain))
+}
+
+fn assert_claim(
+    rt: &impl Abort,
+    alloc: Global,
+    shape: &Shape,
+    net: &Network,
+    claim: &Claim,
+) -> Result<(), OutOfMemory>
+    requires { net.now.shape ≡ shape.now }
+{
+    for (sets, is_best) in claim.chains {
+        assert_eq!(rt; is_accepted(rt, alloc, shape, net, claim, sets)?, *is_best);
+    }
+    Ok(())
 }
 
 fn network_of(
@@ -196,7 +211,7 @@ fn assert_case(rt: &impl Abort, alloc: Global, case: &Case) -> Result<(), OutOfM
         assert_cut(rt, &net, *mask, *unserved, *tight);
     }
     for claim in case.claims {
-        assert_eq!(rt; is_accepted(rt, alloc, &shape, &net, claim)?, claim.best);
+        assert_claim(rt, alloc, &shape, &net, claim)?;
     }
     Ok(())
 }
@@ -230,44 +245,13 @@ fn claims_are_judged(rt: HostRuntime) -> Result<(), Fail> {
                     charge: &[],
                     flows: &[30],
                     generation: &[70, 0],
-                    sets: &[0, 3],
-                    best: true,
-                },
-                Claim {
-                    unserved: &[0, 20],
-                    discharge: &[],
-                    charge: &[],
-                    flows: &[30],
-                    generation: &[70, 0],
-                    sets: &[0, 2],
-                    best: true,
-                },
-                Claim {
-                    unserved: &[0, 20],
-                    discharge: &[],
-                    charge: &[],
-                    flows: &[30],
-                    generation: &[70, 0],
-                    sets: &[0, 0],
-                    best: false,
-                },
-                Claim {
-                    unserved: &[0, 20],
-                    discharge: &[],
-                    charge: &[],
-                    flows: &[30],
-                    generation: &[70, 0],
-                    sets: &[0, 1],
-                    best: false,
-                },
-                Claim {
-                    unserved: &[0, 20],
-                    discharge: &[],
-                    charge: &[],
-                    flows: &[30],
-                    generation: &[70, 0],
-                    sets: &[3, 3],
-                    best: false,
+                    chains: &[
+                        (&[0, 3], true),
+                        (&[0, 2], true),
+                        (&[0, 0], false),
+                        (&[0, 1], false),
+                        (&[3, 3], false),
+                    ],
                 },
                 Claim {
                     unserved: &[0, 50],
@@ -275,35 +259,12 @@ fn claims_are_judged(rt: HostRuntime) -> Result<(), Fail> {
                     charge: &[],
                     flows: &[0],
                     generation: &[40, 0],
-                    sets: &[0, 0],
-                    best: false,
-                },
-                Claim {
-                    unserved: &[0, 50],
-                    discharge: &[],
-                    charge: &[],
-                    flows: &[0],
-                    generation: &[40, 0],
-                    sets: &[0, 1],
-                    best: false,
-                },
-                Claim {
-                    unserved: &[0, 50],
-                    discharge: &[],
-                    charge: &[],
-                    flows: &[0],
-                    generation: &[40, 0],
-                    sets: &[0, 2],
-                    best: false,
-                },
-                Claim {
-                    unserved: &[0, 50],
-                    discharge: &[],
-                    charge: &[],
-                    flows: &[0],
-                    generation: &[40, 0],
-                    sets: &[0, 3],
-                    best: false,
+                    chains: &[
+                        (&[0, 0], false),
+                        (&[0, 1], false),
+                        (&[0, 2], false),
+                        (&[0, 3], false),
+                    ],
                 },
             ],
         },
@@ -329,26 +290,7 @@ fn claims_are_judged(rt: HostRuntime) -> Result<(), Fail> {
                     charge: &[],
                     flows: &[-10, 0],
                     generation: &[0, 10, 0],
-                    sets: &[0, 0, 7],
-                    best: true,
-                },
-                Claim {
-                    unserved: &[0, 0, 10],
-                    discharge: &[],
-                    charge: &[],
-                    flows: &[-10, 0],
-                    generation: &[0, 10, 0],
-                    sets: &[0, 0, 6],
-                    best: false,
-                },
-                Claim {
-                    unserved: &[0, 0, 10],
-                    discharge: &[],
-                    charge: &[],
-                    flows: &[-10, 0],
-                    generation: &[0, 10, 0],
-                    sets: &[0, 7, 7],
-                    best: true,
+                    chains: &[(&[0, 0, 7], true), (&[0, 0, 6], false), (&[0, 7, 7], true)],
                 },
                 Claim {
                     unserved: &[10, 0, 0],
@@ -356,26 +298,11 @@ fn claims_are_judged(rt: HostRuntime) -> Result<(), Fail> {
                     charge: &[],
                     flows: &[0, 10],
                     generation: &[0, 10, 0],
-                    sets: &[7, 0, 0],
-                    best: false,
-                },
-                Claim {
-                    unserved: &[10, 0, 0],
-                    discharge: &[],
-                    charge: &[],
-                    flows: &[0, 10],
-                    generation: &[0, 10, 0],
-                    sets: &[1, 0, 0],
-                    best: false,
-                },
-                Claim {
-                    unserved: &[10, 0, 0],
-                    discharge: &[],
-                    charge: &[],
-                    flows: &[0, 10],
-                    generation: &[0, 10, 0],
-                    sets: &[3, 0, 0],
-                    best: false,
+                    chains: &[
+                        (&[7, 0, 0], false),
+                        (&[1, 0, 0], false),
+                        (&[3, 0, 0], false),
+                    ],
                 },
             ],
         },
@@ -395,8 +322,7 @@ fn claims_are_judged(rt: HostRuntime) -> Result<(), Fail> {
                     charge: &[0, 0],
                     flows: &[],
                     generation: &[100],
-                    sets: &[0, 1, 0, 1, 1],
-                    best: true,
+                    chains: &[(&[0, 1, 0, 1, 1], true)],
                 },
                 Claim {
                     unserved: &[0],
@@ -404,8 +330,7 @@ fn claims_are_judged(rt: HostRuntime) -> Result<(), Fail> {
                     charge: &[0, 0],
                     flows: &[],
                     generation: &[100],
-                    sets: &[0, 1, 1, 1, 1],
-                    best: false,
+                    chains: &[(&[0, 1, 1, 1, 1], false)],
                 },
                 Claim {
                     unserved: &[0],
@@ -413,8 +338,7 @@ fn claims_are_judged(rt: HostRuntime) -> Result<(), Fail> {
                     charge: &[0, 7],
                     flows: &[],
                     generation: &[100],
-                    sets: &[0, 1, 0, 1, 1],
-                    best: false,
+                    chains: &[(&[0, 1, 0, 1, 1], false)],
                 },
             ],
         },
@@ -434,8 +358,7 @@ fn claims_are_judged(rt: HostRuntime) -> Result<(), Fail> {
                     charge: &[30, 20],
                     flows: &[],
                     generation: &[100],
-                    sets: &[0, 0, 0, 0, 1],
-                    best: true,
+                    chains: &[(&[0, 0, 0, 0, 1], true)],
                 },
                 Claim {
                     unserved: &[0],
@@ -443,8 +366,7 @@ fn claims_are_judged(rt: HostRuntime) -> Result<(), Fail> {
                     charge: &[20, 30],
                     flows: &[],
                     generation: &[100],
-                    sets: &[0, 0, 0, 1, 0],
-                    best: false,
+                    chains: &[(&[0, 0, 0, 1, 0], false)],
                 },
                 Claim {
                     unserved: &[0],
@@ -452,8 +374,7 @@ fn claims_are_judged(rt: HostRuntime) -> Result<(), Fail> {
                     charge: &[0, 0],
                     flows: &[],
                     generation: &[50],
-                    sets: &[0, 0, 0, 1, 1],
-                    best: false,
+                    chains: &[(&[0, 0, 0, 1, 1], false)],
                 },
             ],
         },
@@ -473,17 +394,7 @@ fn claims_are_judged(rt: HostRuntime) -> Result<(), Fail> {
                     charge: &[0],
                     flows: &[12],
                     generation: &[0, 5],
-                    sets: &[0, 2, 3, 3],
-                    best: true,
-                },
-                Claim {
-                    unserved: &[0, 3],
-                    discharge: &[12],
-                    charge: &[0],
-                    flows: &[12],
-                    generation: &[0, 5],
-                    sets: &[0, 2, 1, 3],
-                    best: false,
+                    chains: &[(&[0, 2, 3, 3], true), (&[0, 2, 1, 3], false)],
                 },
                 Claim {
                     unserved: &[0, 3],
@@ -491,8 +402,7 @@ fn claims_are_judged(rt: HostRuntime) -> Result<(), Fail> {
                     charge: &[1],
                     flows: &[12],
                     generation: &[0, 5],
-                    sets: &[0, 2, 3, 3],
-                    best: false,
+                    chains: &[(&[0, 2, 3, 3], false)],
                 },
                 Claim {
                     unserved: &[0, 15],
@@ -500,8 +410,7 @@ fn claims_are_judged(rt: HostRuntime) -> Result<(), Fail> {
                     charge: &[0],
                     flows: &[0],
                     generation: &[0, 5],
-                    sets: &[0, 2, 0, 3],
-                    best: false,
+                    chains: &[(&[0, 2, 0, 3], false)],
                 },
             ],
         },

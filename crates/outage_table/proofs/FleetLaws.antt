@@ -3,19 +3,18 @@ use Rattle.std.proofs.Common.{◌≡◌, ℕ, zero, suc, ◌+◌, ◌-◌, ◌*�
 use Rattle.std.proofs.lemmas.Bool.{cases_lt}
 use Rattle.std.proofs.lemmas.List.{get_or_past, get_or-take, take_all, take_more}
 use Rattle.std.proofs.lemmas.List.Elements.{All-take, All-get_or}
-use Rattle.std.proofs.lemmas.List.Sums.{fold_push}
 use Rattle.fixed_interval.specs.declared.enclosure.Enclosure.{Enclosure}
 use Rattle.fixed_interval.specs.Enclosure.{one}
 use Rattle.fixed_interval.specs.Rounding.{floor_div, ceil_div}
-use Rattle.fixed_interval.proofs.Rounds.{floor_div-more, ceil_div-more, floor_div-small}
+use Rattle.fixed_interval.proofs.Rounds.{floor_div-small}
 use Rattle.system_model.specs.Rates.{AreRates, out_weight, up_weight}
 use Rattle.outage_table.specs.declared.units.PooledUnit.{PooledUnit}
 use Rattle.outage_table.specs.States.{total_capacity}
-use Rattle.outage_table.specs.Grid.{no_units, with_unit, grid}
+use Rattle.outage_table.specs.Grid.{no_units, grid}
 use Rattle.outage_table.specs.Table.{AreEntries}
 use Rattle.outage_table.specs.Fleet.{moved, AreFalling, AreJoined, end_of}
 use Rattle.outage_table.proofs.StateLaws.{AreRated}
-use Rattle.outage_table.proofs.GridLaws.{grid_ends, part-high}
+use Rattle.outage_table.proofs.GridLaws.{grid_ends, part-high, low_end-push, high_end-push}
 use Rattle.outage_table.proofs.TableLaws.{given_back}
 use Rattle.outage_table.proofs.FarLaws.{end_of-near, end_of-far}
 
@@ -57,29 +56,22 @@ high_falling end units rated are = record {
 }
 
 -- one more unit
+ends_push : (round : ℕ → ℕ → ℕ) (end more : ℕ → ℕ) (units : List PooledUnit) (u : PooledUnit) (out all : ℕ)
+    → ((x : ℕ) → moved round (out_weight u.rates) (out_weight u.rates + up_weight u.rates) u.capacity (grid round units) x ≡ grid round (units ++ u ∷ []) x)
+    → AreEnds round end units → out ≡ out_weight u.rates → all ≡ out_weight u.rates + up_weight u.rates
+    → ((x : ℕ) → more x ≡ moved round out all u.capacity end x) → AreEnds round more (units ++ u ∷ [])
+ends_push round end more units u out all pushed are is_out is_all moves =
+    record { read = λ x. moves x ∙ rw (is_out, is_all, are.read x, are.read (x - u.capacity)) (pushed x) }
+
 pub low_push : (end more : ℕ → ℕ) (units : List PooledUnit) (u : PooledUnit) (out all : ℕ) → AreRated units → AreRates u.rates
     → AreEnds floor_div end units → out ≡ out_weight u.rates → all ≡ out_weight u.rates + up_weight u.rates
     → ((x : ℕ) → more x ≡ moved floor_div out all u.capacity end x) → AreEnds floor_div more (units ++ u ∷ [])
-low_push end more units u out all rated unit are is_out is_all moves = record {
-  read = λ x.
-      moves x
-      ∙ (rw (is_out, is_all, are.read x, are.read (x - u.capacity))
-      (floor_div-more (out_weight u.rates) (up_weight u.rates) (grid floor_div units x) (grid floor_div units (x - u.capacity)) unit.some
-      ((grid_ends units rated).falls_low (x - u.capacity) x (omega arith))))
-      ∙ ap (λ g. g x) (sym (fold_push (with_unit floor_div) no_units units u));
-}
+low_push end more units u out all rated unit = ends_push floor_div end more units u out all (λ x. low_end-push units u x rated unit)
 
 pub high_push : (end more : ℕ → ℕ) (units : List PooledUnit) (u : PooledUnit) (out all : ℕ) → AreRated units → AreRates u.rates
     → AreEnds ceil_div end units → out ≡ out_weight u.rates → all ≡ out_weight u.rates + up_weight u.rates
     → ((x : ℕ) → more x ≡ moved ceil_div out all u.capacity end x) → AreEnds ceil_div more (units ++ u ∷ [])
-high_push end more units u out all rated unit are is_out is_all moves = record {
-  read = λ x.
-      moves x
-      ∙ (rw (is_out, is_all, are.read x, are.read (x - u.capacity))
-      (ceil_div-more (out_weight u.rates) (up_weight u.rates) (grid ceil_div units x) (grid ceil_div units (x - u.capacity)) unit.some
-      ((grid_ends units rated).falls_high (x - u.capacity) x (omega arith))))
-      ∙ ap (λ g. g x) (sym (fold_push (with_unit ceil_div) no_units units u));
-}
+high_push end more units u out all rated unit = ends_push ceil_div end more units u out all (λ x. high_end-push units u x rated unit)
 
 -- zeros at the end change no end
 pub filled : (ends longer : List ℕ) (n k : ℕ) → length ends ≤ n → longer ≡ take n ends ++ replicate {A = ℕ} k 0

@@ -3,15 +3,16 @@
 use Rattle.std.proofs.Common.{◌≡◌, ℕ, zero, suc, ◌+◌, ◌-◌, ◌*◌, ◌<◌, ◌≤◌, List, [], ◌∷◌, ◌++◌, length, refl, sym, ap, subst, ◌∙◌, arith, length-append, fold}
 use Rattle.std.proofs.lemmas.Bool.Decides.{nat_tests}
 use Rattle.std.proofs.lemmas.List.{append-nil, append_assoc}
-use Rattle.std.proofs.lemmas.List.Sums.{sum_by_push}
+use Rattle.std.proofs.lemmas.List.Sums.{sum_by_push, fold_push}
 use Rattle.std.proofs.lemmas.List.Elements.{All-head, All-tail}
 use Rattle.fixed_interval.specs.Enclosure.{one}
 use Rattle.fixed_interval.specs.Rounding.{floor_div, ceil_div}
-use Rattle.fixed_interval.proofs.Rounds.{floor_div-below, ceil_div-above}
+use Rattle.fixed_interval.proofs.Rounds.{floor_div-below, ceil_div-above, floor_div-more, ceil_div-more}
 use Rattle.system_model.specs.Rates.{AreRates, out_weight, up_weight}
 use Rattle.outage_table.specs.declared.units.PooledUnit.{PooledUnit}
 use Rattle.outage_table.specs.States.{total_capacity, all_weight, outage_weight}
 use Rattle.outage_table.specs.Grid.{no_units, with_unit, grid}
+use Rattle.outage_table.specs.Fleet.{moved}
 use Rattle.outage_table.proofs.StateLaws.{AreRated, all_weight-push, outage_weight-push, outage_weight-shift}
 use Rattle.outage_table.proofs.Ends.{mean-le, floor_div-le, ceil_div-le, floor-le-ceil, floor_div-same, ceil_div-same, mean_bounded_below, mean_bounded_above, mean_width}
 
@@ -173,3 +174,20 @@ pub part-high : (units : List PooledUnit) (x : ℕ) → AreRated units → grid 
 part-high units x rated =
     let top : grid ceil_div units x ≤ grid ceil_div units 0 = (grid_ends units rated).falls_high 0 x (omega arith) in
     rw (grid_ends units rated).certain_high at top
+
+-- the written ends, moved by one more unit, are those that are written with it
+pub low_end-push : (units : List PooledUnit) (u : PooledUnit) (x : ℕ) → AreRated units → AreRates u.rates
+    → moved floor_div (out_weight u.rates) (out_weight u.rates + up_weight u.rates) u.capacity (grid floor_div units) x
+    ≡ grid floor_div (units ++ u ∷ []) x
+low_end-push units u x rated unit =
+    floor_div-more (out_weight u.rates) (up_weight u.rates) (grid floor_div units x) (grid floor_div units (x - u.capacity))
+    unit.some ((grid_ends units rated).falls_low (x - u.capacity) x (omega arith))
+    ∙ ap (λ g. g x) (sym (fold_push (with_unit floor_div) no_units units u))
+
+pub high_end-push : (units : List PooledUnit) (u : PooledUnit) (x : ℕ) → AreRated units → AreRates u.rates
+    → moved ceil_div (out_weight u.rates) (out_weight u.rates + up_weight u.rates) u.capacity (grid ceil_div units) x
+    ≡ grid ceil_div (units ++ u ∷ []) x
+high_end-push units u x rated unit =
+    ceil_div-more (out_weight u.rates) (up_weight u.rates) (grid ceil_div units x) (grid ceil_div units (x - u.capacity))
+    unit.some ((grid_ends units rated).falls_high (x - u.capacity) x (omega arith))
+    ∙ ap (λ g. g x) (sym (fold_push (with_unit ceil_div) no_units units u))

@@ -2,19 +2,17 @@
 use Rattle.std.proofs.Common.{◌≡◌, ℕ, zero, suc, ◌+◌, ◌-◌, ◌^◌, ◌<◌, ◌≤◌, List, [], ◌∷◌, ◌++◌, length, get_or, take, drop, sym, ap, subst, refl, inl, inr, ◌∙◌, arith, length-append}
 use Rattle.std.proofs.lemmas.Bool.{cases_lt}
 use Rattle.std.proofs.lemmas.List.{take_all, drop_all, append-nil}
-use Rattle.std.proofs.lemmas.List.Sums.{fold_push}
 use Rattle.std.proofs.lemmas.List.Elements.{All-nil, All-push}
 use Rattle.ra_base.specs.declared.limits.TheConstants.{MOST_TABLE_MW}
 use Rattle.fixed_interval.specs.declared.enclosure.Enclosure.{Enclosure}
 use Rattle.fixed_interval.specs.Enclosure.{one}
 use Rattle.fixed_interval.specs.Rounding.{floor_div, ceil_div}
-use Rattle.fixed_interval.proofs.Rounds.{floor_div-more, ceil_div-more}
 use Rattle.system_model.specs.Rates.{AreRates, out_weight, up_weight}
 use Rattle.outage_table.specs.declared.units.PooledUnit.{PooledUnit}
 use Rattle.outage_table.specs.States.{total_capacity}
-use Rattle.outage_table.specs.Grid.{no_units, with_unit, grid}
+use Rattle.outage_table.specs.Grid.{no_units, grid}
 use Rattle.outage_table.specs.Table.{IsFilledUp, AreFallingEntries, AreMixed, IsTable}
-use Rattle.outage_table.proofs.GridLaws.{grid_ends, part-high, total_capacity-push}
+use Rattle.outage_table.proofs.GridLaws.{grid_ends, part-high, total_capacity-push, low_end-push, high_end-push}
 
 -- past the last entry the written ends are 0
 pub low_past : (entries : List Enclosure) (units : List PooledUnit) (x : ℕ) → IsTable entries units → length entries ≤ x
@@ -98,9 +96,7 @@ table-push entries longer mixed units u out all table rated small countable fill
           filled_low entries longer (total_capacity units + u.capacity + 1) units table filled x d within,
           filled_low entries longer (total_capacity units + u.capacity + 1) units table filled (x - u.capacity) d before,
         )
-        (floor_div-more (out_weight u.rates) (up_weight u.rates) (grid floor_div units x) (grid floor_div units (x - u.capacity)) rated.some
-        ((grid_ends units table.rated).falls_low (x - u.capacity) x (omega arith))))
-        ∙ ap (λ g. g x) (sym (fold_push (with_unit floor_div) no_units units u));
+        (low_end-push units u x table.rated rated));
     high = λ x d h.
         let within : x < total_capacity units + u.capacity + 1 = omega (arith, long, filled.count) in
         let before : x - u.capacity < total_capacity units + u.capacity + 1 = omega arith in
@@ -111,9 +107,7 @@ table-push entries longer mixed units u out all table rated small countable fill
           filled_high entries longer (total_capacity units + u.capacity + 1) units table filled x d within,
           filled_high entries longer (total_capacity units + u.capacity + 1) units table filled (x - u.capacity) d before,
         )
-        (ceil_div-more (out_weight u.rates) (up_weight u.rates) (grid ceil_div units x) (grid ceil_div units (x - u.capacity)) rated.some
-        ((grid_ends units table.rated).falls_high (x - u.capacity) x (omega arith))))
-        ∙ ap (λ g. g x) (sym (fold_push (with_unit ceil_div) no_units units u));
+        (high_end-push units u x table.rated rated));
   };
   small = rw (total_capacity-push units u) small;
   countable = rw (length-append units (u ∷ [])) countable;

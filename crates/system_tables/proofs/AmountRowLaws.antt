@@ -60,6 +60,26 @@ length-row_of width count amounts row size below =
     let ends : row * width + width ≤ length amounts = row_ends width count amounts row size below in
     length-take-le width (drop (row * width) amounts) (omega (arith, length-drop (row * width) amounts))
 
+-- a row that is held, by the list in which the rows stand
+pub record IsHeld (width count : ℕ) (amounts : List ℕ) (rows : List (List ℕ)) (row : ℕ) : Type 0 where
+  pub below : row < count
+  pub ends : row * width + width ≤ length amounts
+  pub is : get_or rows row [] ≡ row_of width amounts row
+
+pub held_row : (width count : ℕ) (amounts : List ℕ) (rows : List (List ℕ)) (row : ℕ)
+    → rows_of width count amounts ≡ rows
+    → length amounts ≡ count * width
+    → row < length rows
+    → IsHeld width count amounts rows row
+held_row width count amounts rows row held size among =
+    let counted : count ≡ length rows = sym (length-rows_of width count amounts) ∙ ap length held in
+    let below : row < count = omega arith in
+    record {
+      below = below;
+      ends = row_ends width count amounts row size below;
+      is = sym (ap (λ (l : List (List ℕ)). get_or l row []) held) ∙ get_or-rows_of width count amounts row [] below;
+    }
+
 -- one more amount of a row was copied
 pub copied-more : (width count : ℕ) (amounts : List ℕ) (row place amount : ℕ) (d : ℕ)
     → length amounts ≡ count * width

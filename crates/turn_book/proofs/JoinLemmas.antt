@@ -189,8 +189,9 @@ module _ {B : Type 0} where
       seat_v : IsSeat k kept.made kept.history v
       seat_v = kept.seats.each id v there live
 
-      more_made : (u : View B) → IsSeat k kept.made kept.history u → (u.number ≡ 0 → u.made ≡ kept.made + 1) → IsSeat k (kept.made + 1) kept.history u
-      more_made u seat made = record {
+      more_made : (u : View B) (made : ℕ) → IsSeat k kept.made kept.history u → (u.number ≡ 0 → made ≡ kept.made + 1)
+          → IsSeat k (kept.made + 1) kept.history (record u { made = made })
+      more_made u made seat is = record {
         first = seat.first;
         target = seat.target;
         block = seat.block;
@@ -202,28 +203,12 @@ module _ {B : Type 0} where
         given = seat.given;
         apart = seat.apart;
         below = λ n own. omega (arith, seat.below n own);
-        keeps_made = made;
+        keeps_made = is;
         found = seat.found;
       }
 
       left_seat : IsSeat k (kept.made + 1) kept.history (with_made v)
-      left_seat =
-          let seat = kept.seats.each id v there live in
-          record {
-            first = seat.first;
-            target = seat.target;
-            block = seat.block;
-            seen = seat.seen;
-            also = seat.also;
-            mine = seat.mine;
-            others = seat.others;
-            out = seat.out;
-            given = seat.given;
-            apart = seat.apart;
-            below = λ n own. omega (arith, seat.below n own);
-            keeps_made = λ z. ap (λ m. m + 1) (seat.keeps_made z);
-            found = seat.found;
-          }
+      left_seat = more_made v (v.made + 1) seat_v (λ z. ap (λ m. m + 1) (seat_v.keeps_made z))
 
       made_is : v.made ≡ kept.made
       made_is = (kept.seats.each id v there live).keeps_made opening
@@ -266,7 +251,7 @@ module _ {B : Type 0} where
       set_left = record {
         each = λ j u at alive. elim (at_set s.views id j (with_made v) u at) [
           | inl here ↦ subst (IsSeat k (kept.made + 1) kept.history) here.1 left_seat
-          | inr away ↦ more_made u (kept.seats.each j u away.1 alive) (λ z. absurd (not_opening j u away.1 away.0 alive z))
+          | inr away ↦ more_made u u.made (kept.seats.each j u away.1 alive) (λ z. absurd (not_opening j u away.1 away.0 alive z))
         ];
         apart = apart_set s.views id v (with_made v) kept.seats.apart there live (λ n. refl);
       }

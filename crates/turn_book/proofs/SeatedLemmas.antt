@@ -4,6 +4,7 @@ use Rattle.std.proofs.lemmas.Bool.{false≢true, eq-eqb, eqb-true, ne_eqb, or_ca
 use Rattle.campaign_core.specs.declared.gate.Gate.{Gate}
 use Rattle.campaign_core.specs.declared.run.SampleRange.{SampleRange}
 use Rattle.campaign_core.specs.declared.call.Call.{Call}
+use Rattle.campaign_core.specs.declared.call.Entry.{Entry}
 use Rattle.campaign_core.specs.History.{reply_of, ranges_of, deposits_of}
 use Rattle.turn_book.specs.declared.view.View.{View}
 use Rattle.turn_book.specs.declared.seats.TurnBook.{TurnBook}
@@ -47,31 +48,23 @@ module _ {B L : Type 0} (book : TurnBook B L) (s t : BookSeat B) (of : IsOf book
     sound = sound;
   }
 
+  stays_seen : (seen calls : List Entry) → view_of t ≡ record (view_of s) { seen = seen; calls = calls } → Stays (view_of s) (view_of t)
+  stays_seen seen calls is = record {
+    live = ap (λ (v : View B). v.live) is;
+    first = ap (λ (v : View B). v.first) is;
+    target = ap (λ (v : View B). v.target) is;
+    block = ap (λ (v : View B). v.block) is;
+    also = ap (λ (v : View B). v.also) is;
+    holds = ap (λ (v : View B). v.holds) is;
+  }
+
   pub of_sees : (g : Gate) → t.seat.table_id ≡ s.seat.table_id → t.seat.me.1 ≡ s.seat.me.1 → t.turn ≡ s.turn → Sees (view_of s) g (view_of t) → IsOf book t
   of_sees g table slots turn sees =
-      of_stays table slots turn
-      (record {
-        live = ap (λ (v : View B). v.live) sees.view;
-        first = ap (λ (v : View B). v.first) sees.view;
-        target = ap (λ (v : View B). v.target) sees.view;
-        block = ap (λ (v : View B). v.block) sees.view;
-        also = ap (λ (v : View B). v.also) sees.view;
-        holds = ap (λ (v : View B). v.holds) sees.view;
-      })
-      sees.found sees.sound
+      of_stays table slots turn (stays_seen _ (view_of s).calls sees.view) sees.found sees.sound
 
   pub of_makes : (call : Call) (g : Gate) → t.seat.table_id ≡ s.seat.table_id → t.seat.me.1 ≡ s.seat.me.1 → t.turn ≡ s.turn → Makes (view_of s) call g (view_of t) → IsOf book t
   of_makes call g table slots turn makes =
-      of_stays table slots turn
-      (record {
-        live = ap (λ (v : View B). v.live) makes.view;
-        first = ap (λ (v : View B). v.first) makes.view;
-        target = ap (λ (v : View B). v.target) makes.view;
-        block = ap (λ (v : View B). v.block) makes.view;
-        also = ap (λ (v : View B). v.also) makes.view;
-        holds = ap (λ (v : View B). v.holds) makes.view;
-      })
-      makes.found makes.sound
+      of_stays table slots turn (stays_seen _ _ makes.view) makes.found makes.sound
 
   either_way : (b : Bool) (call : Call) (g : Gate) → t.seat.table_id ≡ s.seat.table_id → t.seat.me.1 ≡ s.seat.me.1 → t.turn ≡ s.turn
       → MatchBool b (Sees (view_of s) g (view_of t)) (Makes (view_of s) call g (view_of t)) → IsOf book t
@@ -226,25 +219,21 @@ taken_slot old new book e = (Some book, e ∙ ap (λ l. (0, Some book) ∷ l) (s
 -- ---- what stays of a seat at steps of the gate
 
 module _ {B : Type 0} where
-  pub same_sees : (v : View B) (g : Gate) (w : View B) → Sees v g w → IsSameSeat v w
-  same_sees v g w s = record {
-    number = ap (λ (x : View B). x.number) s.view;
-    made = ap (λ (x : View B). x.made) s.view;
-    joined = ap (λ (x : View B). x.joined) s.view;
-    holds = ap (λ (x : View B). x.holds) s.view;
-    target = ap (λ (x : View B). x.target) s.view;
-    block = ap (λ (x : View B). x.block) s.view;
+  same_seen : (v w : View B) (seen calls : List Entry) → w ≡ record v { seen = seen; calls = calls } → IsSameSeat v w
+  same_seen v w seen calls is = record {
+    number = ap (λ (x : View B). x.number) is;
+    made = ap (λ (x : View B). x.made) is;
+    joined = ap (λ (x : View B). x.joined) is;
+    holds = ap (λ (x : View B). x.holds) is;
+    target = ap (λ (x : View B). x.target) is;
+    block = ap (λ (x : View B). x.block) is;
   }
 
+  pub same_sees : (v : View B) (g : Gate) (w : View B) → Sees v g w → IsSameSeat v w
+  same_sees v g w s = same_seen v w _ v.calls s.view
+
   pub same_makes : (v : View B) (call : Call) (g : Gate) (w : View B) → Makes v call g w → IsSameSeat v w
-  same_makes v call g w s = record {
-    number = ap (λ (x : View B). x.number) s.view;
-    made = ap (λ (x : View B). x.made) s.view;
-    joined = ap (λ (x : View B). x.joined) s.view;
-    holds = ap (λ (x : View B). x.holds) s.view;
-    target = ap (λ (x : View B). x.target) s.view;
-    block = ap (λ (x : View B). x.block) s.view;
-  }
+  same_makes v call g w s = same_seen v w _ _ s.view
 
   same_either : (b : Bool) (v : View B) (call : Call) (g : Gate) (w : View B) → MatchBool b (Sees v g w) (Makes v call g w) → IsSameSeat v w
   same_either true v call g w s = same_sees v g w s

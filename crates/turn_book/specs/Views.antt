@@ -49,79 +49,27 @@ module _ {B : Type 0} where
 
   -- the view with a longer history
   abbrev pub with_seen : View B → List Entry → View B
-  with_seen v seen = record {
-    first = v.first;
-    live = v.live;
-    holds = v.holds;
-    target = v.target;
-    block = v.block;
-    number = v.number;
-    made = v.made;
-    seen = seen;
-    also = v.also;
-    calls = v.calls;
-    joined = v.joined;
-  }
+  with_seen v seen = record v { seen = seen }
 
   -- the view with a longer history, and then a call of the seat's own
   abbrev pub with_call : View B → List Entry → Entry → View B
-  with_call v before e = record {
-    first = v.first;
-    live = v.live;
-    holds = v.holds;
-    target = v.target;
-    block = v.block;
-    number = v.number;
-    made = v.made;
-    seen = before ++ e ∷ [];
-    also = v.also;
-    calls = v.calls ++ e ∷ [];
-    joined = v.joined;
-  }
+  with_call v before e = record v { seen = before ++ e ∷ []; calls = v.calls ++ e ∷ [] }
 
   -- the same, and the book held or not
   abbrev pub with_hold : Bool → View B → View B
-  with_hold holds v = record {
-    first = v.first;
-    live = v.live;
-    holds = holds;
-    target = v.target;
-    block = v.block;
-    number = v.number;
-    made = v.made;
-    seen = v.seen;
-    also = v.also;
-    calls = v.calls;
-    joined = v.joined;
-  }
+  with_hold holds v = record v { holds = holds }
 
   -- the opening seat's view with one more seat made
   abbrev pub with_made : View B → View B
-  with_made v = record {
-    first = v.first;
-    live = v.live;
-    holds = v.holds;
-    target = v.target;
-    block = v.block;
-    number = v.number;
-    made = v.made + 1;
-    seen = v.seen;
-    also = v.also;
-    calls = v.calls;
-    joined = v.joined;
-  }
+  with_made v = record v { made = v.made + 1 }
 
   -- a new seat's view: it has seen what the opening seat has seen
   abbrev pub newcomer : View B → View B
-  newcomer v = record {
-    first = v.first;
+  newcomer v = record v {
     live = true;
     holds = false;
-    target = v.target;
-    block = v.block;
     number = v.made;
     made = 0;
-    seen = v.seen;
     also = [];
     calls = [];
     joined = [];
@@ -129,14 +77,7 @@ module _ {B : Type 0} where
 
   -- the view of a seat that took in another: until the next step, what the shorter one had seen stands beside
   abbrev pub taken_in : View B → View B → View B
-  taken_in v w = record {
-    first = v.first;
-    live = v.live;
-    holds = v.holds;
-    target = v.target;
-    block = v.block;
-    number = v.number;
-    made = v.made;
+  taken_in v w = record v {
     seen = if nat_lt (length v.seen) (length w.seen) then w.seen else v.seen;
     also = if nat_lt (length v.seen) (length w.seen) then v.seen else w.seen;
     calls = v.calls ++ w.calls;
@@ -144,19 +85,7 @@ module _ {B : Type 0} where
   }
 
   abbrev pub settled : View B → View B
-  settled v = record {
-    first = v.first;
-    live = v.live;
-    holds = v.holds;
-    target = v.target;
-    block = v.block;
-    number = v.number;
-    made = v.made;
-    seen = v.seen;
-    also = [];
-    calls = v.calls;
-    joined = v.joined;
-  }
+  settled v = record v { also = [] }
 
   -- what is left of a seat that was joined away
   abbrev pub spent : View B
@@ -176,18 +105,12 @@ module _ {B : Type 0} where
 
   -- the opening seat's view of a campaign that was just opened
   abbrev pub opening_view : B → ℕ → ℕ → View B
-  opening_view book target block = record {
+  opening_view book target block = record spent {
     first = Some book;
     live = true;
-    holds = false;
     target = target;
     block = block;
-    number = 0;
     made = 1;
-    seen = [];
-    also = [];
-    calls = [];
-    joined = [];
   }
 
   -- the view is the opening seat's, which has made no other and took in none

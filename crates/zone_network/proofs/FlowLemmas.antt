@@ -13,43 +13,47 @@ link_among s l valid below = All-get_or (IsLinkAmong s.zones) s.ends l no_link b
 pub device_among : (s : ShapeParts) (k : ℕ) → IsShape s → k < device_count s → zone_of_device s k < s.zones
 device_among s k valid below = All-get_or (λ zone. zone < s.zones) s.device_zones k 0 below valid.each_device
 
--- what comes into the zones of a set is one sum over links each way
+-- what links carry, each way counted at one of their ends, over the zones of a set is one sum over links each way
+regroup : (s : ShapeParts) (start end : ℕ → ℕ) (flow : ℕ → ℤ) (zones : NumberSet)
+    → ((l : ℕ) → l < link_count s → start l < s.zones)
+    → ((l : ℕ) → l < link_count s → end l < s.zones)
+    → sum_where zones
+    (λ z.
+    sum_where (λ l. end l == z) (λ l. forward_of (flow l)) (link_count s)
+    + sum_where (λ l. start l == z) (λ l. backward_of (flow l)) (link_count s))
+    s.zones
+    ≡ sum_where (λ l. zones (end l)) (λ l. forward_of (flow l)) (link_count s)
+    + sum_where (λ l. zones (start l)) (λ l. backward_of (flow l)) (link_count s)
+regroup s start end flow zones starts ends =
+    let forward : ℕ → ℕ = λ z. sum_where (λ l. end l == z) (λ l. forward_of (flow l)) (link_count s) in
+    let backward : ℕ → ℕ = λ z. sum_where (λ l. start l == z) (λ l. backward_of (flow l)) (link_count s) in
+    let split : sum_where zones (λ z. forward z + backward z) s.zones ≡ sum_where zones forward s.zones + sum_where zones backward s.zones =
+    sum_where-add zones forward backward s.zones in
+    let first : sum_where zones forward s.zones ≡ sum_where (λ l. zones (end l)) (λ l. forward_of (flow l)) (link_count s) =
+    sum_where-regroup zones end (λ l. forward_of (flow l)) s.zones (link_count s) ends in
+    let second : sum_where zones backward s.zones ≡ sum_where (λ l. zones (start l)) (λ l. backward_of (flow l)) (link_count s) =
+    sum_where-regroup zones start (λ l. backward_of (flow l)) s.zones (link_count s) starts in
+    omega arith
+
+-- what comes into the zones of a set
 pub inflow-regroup : (s : ShapeParts) (flow : ℕ → ℤ) (zones : NumberSet)
     → IsShape s
     → over_zones s (inflow s flow) zones
     ≡ sum_where (λ l. zones (to_zone s l)) (λ l. forward_of (flow l)) (link_count s)
     + sum_where (λ l. zones (from_zone s l)) (λ l. backward_of (flow l)) (link_count s)
 inflow-regroup s flow zones valid =
-    let forward : ℕ → ℕ = λ z. sum_where (λ l. to_zone s l == z) (λ l. forward_of (flow l)) (link_count s) in
-    let backward : ℕ → ℕ = λ z. sum_where (λ l. from_zone s l == z) (λ l. backward_of (flow l)) (link_count s) in
-    let split : sum_where zones (inflow s flow) s.zones ≡ sum_where zones forward s.zones + sum_where zones backward s.zones =
-    sum_where-add zones forward backward s.zones in
-    let first : sum_where zones forward s.zones ≡ sum_where (λ l. zones (to_zone s l)) (λ l. forward_of (flow l)) (link_count s) =
-    sum_where-regroup zones (to_zone s) (λ l. forward_of (flow l)) s.zones (link_count s)
-    (λ l below. (link_among s l valid below).end) in
-    let second : sum_where zones backward s.zones ≡ sum_where (λ l. zones (from_zone s l)) (λ l. backward_of (flow l)) (link_count s) =
-    sum_where-regroup zones (from_zone s) (λ l. backward_of (flow l)) s.zones (link_count s)
-    (λ l below. (link_among s l valid below).start) in
-    omega arith
+    regroup s (from_zone s) (to_zone s) flow zones
+    (λ l below. (link_among s l valid below).start) (λ l below. (link_among s l valid below).end)
 
--- what goes out of the zones of a set
+-- what goes out of them
 pub outflow-regroup : (s : ShapeParts) (flow : ℕ → ℤ) (zones : NumberSet)
     → IsShape s
     → over_zones s (outflow s flow) zones
     ≡ sum_where (λ l. zones (from_zone s l)) (λ l. forward_of (flow l)) (link_count s)
     + sum_where (λ l. zones (to_zone s l)) (λ l. backward_of (flow l)) (link_count s)
 outflow-regroup s flow zones valid =
-    let forward : ℕ → ℕ = λ z. sum_where (λ l. from_zone s l == z) (λ l. forward_of (flow l)) (link_count s) in
-    let backward : ℕ → ℕ = λ z. sum_where (λ l. to_zone s l == z) (λ l. backward_of (flow l)) (link_count s) in
-    let split : sum_where zones (outflow s flow) s.zones ≡ sum_where zones forward s.zones + sum_where zones backward s.zones =
-    sum_where-add zones forward backward s.zones in
-    let first : sum_where zones forward s.zones ≡ sum_where (λ l. zones (from_zone s l)) (λ l. forward_of (flow l)) (link_count s) =
-    sum_where-regroup zones (from_zone s) (λ l. forward_of (flow l)) s.zones (link_count s)
-    (λ l below. (link_among s l valid below).start) in
-    let second : sum_where zones backward s.zones ≡ sum_where (λ l. zones (to_zone s l)) (λ l. backward_of (flow l)) (link_count s) =
-    sum_where-regroup zones (to_zone s) (λ l. backward_of (flow l)) s.zones (link_count s)
-    (λ l below. (link_among s l valid below).end) in
-    omega arith
+    regroup s (to_zone s) (from_zone s) flow zones
+    (λ l below. (link_among s l valid below).end) (λ l below. (link_among s l valid below).start)
 
 -- the devices in the zones of a set, zone by zone
 pub over_devices-regroup : (s : ShapeParts) (amount : ℕ → ℕ) (zones : NumberSet)

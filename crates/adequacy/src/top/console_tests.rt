@@ -3,9 +3,7 @@ ghost use Rattle.std.specs.Prelude.{Some};
 ghost use Rattle.ra_base.specs.MemoryConsole.{lines_of, faults_of, answers_of};
 
 use super::adequacy;
-use super::tests::{
-    ALL_SHORT, ALWAYS_OUT, DAY, NEVER_OUT, NOTHING_SHORT, ONE_SAMPLE, ZONE, shelf_of, words_of,
-};
+use super::tests::{ALL_SHORT, ALWAYS_OUT, DAY, NEVER_OUT, ZONE, shelf_of, words_of};
 use ra_base::{
     Console, ConsoleError, MemoryConsole, MemorySink, NoPause, OutOfMemory, Pause, Status,
     TableName, Text,
@@ -30,125 +28,9 @@ gate next 15 target 15 sealed yes cancelled no
 ranges 0..14
 ";
 
-// The totals over samples in which nothing is short; those over two stand beside the answers of studies.
-const NO_SAMPLE: &str = "samples 0
-";
-
-const ONE_CALM: &str = "samples 1
-hours sum 0 mean 0.000 error -
-days sum 0 mean 0.000 error -
-events sum 0 mean 0.000 error -
-unserved sum 0 mean 0.000 error -
-zone A sum 0 mean 0.000 error -
-";
-
-const THREE_CALM: &str = "samples 3
-hours sum 0 mean 0.000 error 0.000
-days sum 0 mean 0.000 error 0.000
-events sum 0 mean 0.000 error 0.000
-unserved sum 0 mean 0.000 error 0.000
-zone A sum 0 mean 0.000 error 0.000
-";
-
-const FOUR_CALM: &str = "samples 4
-hours sum 0 mean 0.000 error 0.000
-days sum 0 mean 0.000 error 0.000
-events sum 0 mean 0.000 error 0.000
-unserved sum 0 mean 0.000 error 0.000
-zone A sum 0 mean 0.000 error 0.000
-";
-
-const FIVE_CALM: &str = "samples 5
-hours sum 0 mean 0.000 error 0.000
-days sum 0 mean 0.000 error 0.000
-events sum 0 mean 0.000 error 0.000
-unserved sum 0 mean 0.000 error 0.000
-zone A sum 0 mean 0.000 error 0.000
-";
-
-const FIFTEEN_CALM: &str = "samples 15
-hours sum 0 mean 0.000 error 0.000
-days sum 0 mean 0.000 error 0.000
-events sum 0 mean 0.000 error 0.000
-unserved sum 0 mean 0.000 error 0.000
-zone A sum 0 mean 0.000 error 0.000
-";
-
-// The same where a zone lacks 60 MW in each of 24 hours; those over one and two stand beside the answers of
-// studies too.
-const THREE_SHORT: &str = "samples 3
-hours sum 72 mean 24.000 error 0.000
-days sum 3 mean 1.000 error 0.000
-events sum 3 mean 1.000 error 0.000
-unserved sum 4320 mean 1440.000 error 0.000
-zone A sum 4320 mean 1440.000 error 0.000
-cut A hours 72 unserved 4320
-";
-
-const FOUR_SHORT: &str = "samples 4
-hours sum 96 mean 24.000 error 0.000
-days sum 4 mean 1.000 error 0.000
-events sum 4 mean 1.000 error 0.000
-unserved sum 5760 mean 1440.000 error 0.000
-zone A sum 5760 mean 1440.000 error 0.000
-cut A hours 96 unserved 5760
-";
-
-const FIVE_SHORT: &str = "samples 5
-hours sum 120 mean 24.000 error 0.000
-days sum 5 mean 1.000 error 0.000
-events sum 5 mean 1.000 error 0.000
-unserved sum 7200 mean 1440.000 error 0.000
-zone A sum 7200 mean 1440.000 error 0.000
-cut A hours 120 unserved 7200
-";
-
-const FIFTEEN_SHORT: &str = "samples 15
-hours sum 360 mean 24.000 error 0.000
-days sum 15 mean 1.000 error 0.000
-events sum 15 mean 1.000 error 0.000
-unserved sum 21600 mean 1440.000 error 0.000
-zone A sum 21600 mean 1440.000 error 0.000
-cut A hours 360 unserved 21600
-";
-
-// A unit, and the totals with it over none to five samples and over fifteen.
-#[derive(Clone, Copy)]
-struct Totalled {
-    unit: (TableName, &'static str),
-    few: [&'static str; 6],
-    fifteen: &'static str,
-}
-
-const CALM: Totalled = Totalled {
-    unit: NEVER_OUT,
-    few: [
-        NO_SAMPLE,
-        ONE_CALM,
-        NOTHING_SHORT,
-        THREE_CALM,
-        FOUR_CALM,
-        FIVE_CALM,
-    ],
-    fifteen: FIFTEEN_CALM,
-};
-
-const SHORT: Totalled = Totalled {
-    unit: ALWAYS_OUT,
-    few: [
-        NO_SAMPLE,
-        ONE_SAMPLE,
-        ALL_SHORT,
-        THREE_SHORT,
-        FOUR_SHORT,
-        FIVE_SHORT,
-    ],
-    fifteen: FIFTEEN_SHORT,
-};
-
 // A moment of a campaign: how many samples were given out, the ranges that were deposited, how many samples these
 // have, and how many workers it takes at least, each of which deposits its share before it claims another.
-type Moment = (u32, &'static str, usize, usize);
+type Moment = (u32, &'static str, u64, usize);
 
 // All moments of a campaign of five samples in blocks of two: whatever was given out, each choice of its shares may
 // be deposited.
@@ -208,11 +90,11 @@ fn tell<T: Threads + Wait + Sync, C: Console + Send, P: Pause + Sync>(
     rt: &T,
     alloc: Global,
     tables: &[(TableName, &str)],
-    options: &[&str],
+    words: &str,
     lines: &mut C,
     pause: &P,
 ) -> Result<Told, Fail> {
-    let words = words_of(alloc, "console", options)?;
+    let words = words_of(alloc, words)?;
     let mut shelf = shelf_of(alloc, tables)?;
     let mut out = MemorySink::new(alloc, 2000)?;
     let mut err = MemorySink::new(alloc, 100)?;
@@ -223,18 +105,18 @@ fn tell<T: Threads + Wait + Sync, C: Console + Send, P: Pause + Sync>(
     Ok(Told { status, out, err })
 }
 
-// The same over a zone with a unit, five samples and lines in memory.
+// The same over a zone with a unit that is always out or never, five samples and lines in memory.
 fn tell_lines<T: Threads + Wait + Sync>(
     rt: &T,
     alloc: Global,
-    unit: (TableName, &str),
+    is_short: bool,
     workers: usize,
     lines: &mut MemoryConsole,
 ) -> Result<Told, Fail> {
+    let unit = if is_short { ALWAYS_OUT } else { NEVER_OUT };
     let tables = [ZONE, unit, DAY];
-    let workers = format!(in alloc; "{workers}")?;
-    let options = ["--samples", "5", "--block", "2", "--workers", &workers];
-    tell(rt, alloc, &tables, &options, lines, &NoPause)
+    let words = format!(in alloc; "console F --samples 5 --block 2 --workers {workers}")?;
+    tell(rt, alloc, &tables, &words, lines, &NoPause)
 }
 
 // Adds a line that is too long.
@@ -252,17 +134,36 @@ fn push_lines(lines: &mut MemoryConsole) -> Result<(), OutOfMemory> {
     lines.push(b"extend 1")
 }
 
+// The totals over samples that are all the same: in each a zone lacks 60 MW in each of 24 hours, or nothing.
+pub(super) fn totals_of(alloc: Global, samples: u64, is_short: bool) -> Result<String, Fail> {
+    let mut text = format!(in alloc; "samples {samples}\n")?;
+    if samples == 0 {
+        return Ok(text);
+    }
+    let error = if samples == 1 { "-" } else { "0.000" };
+    let (hours, days, unserved) = if is_short { (24, 1, 1_440) } else { (0, 0, 0) };
+    for (figure, each) in [
+        ("hours", hours),
+        ("days", days),
+        ("events", days),
+        ("unserved", unserved),
+        ("zone A", unserved),
+    ] {
+        let sum = samples.saturating_mul(each);
+        text.push_str(&format!(in alloc; "{figure} sum {sum} mean {each}.000 error {error}\n")?)?;
+    }
+    if is_short {
+        let hours = samples.saturating_mul(hours);
+        let unserved = samples.saturating_mul(unserved);
+        text.push_str(&format!(in alloc; "cut A hours {hours} unserved {unserved}\n")?)?;
+    }
+    Ok(text)
+}
+
 // The report of a moment, with what its gate says behind the samples that were given out.
-fn report_of(
-    alloc: Global,
-    moment: &Moment,
-    state: &str,
-    totals: &[&str; 6],
-) -> Result<String, Fail> {
+fn report_of(alloc: Global, moment: &Moment, state: &str, is_short: bool) -> Result<String, Fail> {
     let (next, ranges, samples, _) = *moment;
-    let Some(totals) = totals.get(samples) else {
-        return Err("no such totals".into());
-    };
+    let totals = totals_of(alloc, samples, is_short)?;
     Ok(format!(in alloc; "gate next {next} {state}\nranges {ranges}\n{totals}")?)
 }
 
@@ -272,11 +173,11 @@ fn is_lawful(
     bytes: &[u8],
     moments: &[Moment],
     state: &str,
-    totals: &[&str; 6],
+    is_short: bool,
     workers: usize,
 ) -> Result<bool, Fail> {
     for moment in moments {
-        let report = report_of(alloc, moment, state, totals)?;
+        let report = report_of(alloc, moment, state, is_short)?;
         if moment.3 <= workers && bytes == report.as_bytes() {
             return Ok(true);
         }
@@ -296,9 +197,10 @@ fn lines_are_answered(rt: HostRuntime) -> Result<(), Fail> {
     let alloc = rt.alloc();
     let mut lines = MemoryConsole::new(alloc);
     push_lines(&mut lines)?;
-    let told = tell_lines(&rt, alloc, NEVER_OUT, 1, &mut lines)?;
+    let told = tell_lines(&rt, alloc, false, 1, &mut lines)?;
     assert_eq!(rt; told.status, Status::Done);
-    let wanted = format!(in alloc; "{ANSWERS}{FIFTEEN_CALM}")?;
+    let totals = totals_of(alloc, 15, false)?;
+    let wanted = format!(in alloc; "{ANSWERS}{totals}")?;
     assert_eq!(rt; told.out.bytes(), wanted.as_bytes());
     assert_eq!(rt; told.err.bytes(), b"".as_slice());
     Ok(())
@@ -308,18 +210,19 @@ fn lines_are_answered(rt: HostRuntime) -> Result<(), Fail> {
 fn is_reported_first<T: Threads + Wait + Sync>(
     rt: &T,
     alloc: Global,
-    case: &Totalled,
+    is_short: bool,
     workers: usize,
 ) -> Result<bool, Fail> {
     let mut lines = MemoryConsole::new(alloc);
     lines.push(b"report")?;
     push_lines(&mut lines)?;
-    let told = tell_lines(rt, alloc, case.unit, workers, &mut lines)?;
+    let told = tell_lines(rt, alloc, is_short, workers, &mut lines)?;
     if told.status != Status::Done {
         return Ok(false);
     }
-    match in_front(told.out.bytes(), ANSWERS, case.fifteen) {
-        Some(report) => is_lawful(alloc, report, &MOMENTS, RUNNING, &case.few, workers),
+    let fifteen = totals_of(alloc, 15, is_short)?;
+    match in_front(told.out.bytes(), ANSWERS, &fifteen) {
+        Some(report) => is_lawful(alloc, report, &MOMENTS, RUNNING, is_short, workers),
         None => Ok(false),
     }
 }
@@ -328,9 +231,9 @@ fn is_reported_first<T: Threads + Wait + Sync>(
 fn a_report_comes_first(rt: HostRuntime) -> Result<(), Fail> {
     let alloc = rt.alloc();
     for workers in 1..=3 {
-        let is_calm = is_reported_first(&rt, alloc, &CALM, workers)?;
+        let is_calm = is_reported_first(&rt, alloc, false, workers)?;
         assert!(rt; is_calm, "nothing short, {workers} workers");
-        let is_short = is_reported_first(&rt, alloc, &SHORT, workers)?;
+        let is_short = is_reported_first(&rt, alloc, true, workers)?;
         assert!(rt; is_short, "all short, {workers} workers");
     }
     Ok(())
@@ -340,17 +243,17 @@ fn a_report_comes_first(rt: HostRuntime) -> Result<(), Fail> {
 fn is_cancel_told<T: Threads + Wait + Sync>(
     rt: &T,
     alloc: Global,
-    case: &Totalled,
+    is_short: bool,
     workers: usize,
 ) -> Result<bool, Fail> {
     let mut lines = MemoryConsole::new(alloc);
     lines.push(b"cancel")?;
-    let told = tell_lines(rt, alloc, case.unit, workers, &mut lines)?;
+    let told = tell_lines(rt, alloc, is_short, workers, &mut lines)?;
     if told.status != Status::Cancelled || told.err.bytes() != b"cancelled\n".as_slice() {
         return Ok(false);
     }
     match told.out.bytes().strip_prefix(b"cancelled\n".as_slice()) {
-        Some(report) => is_lawful(alloc, report, &ENDS, CANCELLED, &case.few, workers),
+        Some(report) => is_lawful(alloc, report, &ENDS, CANCELLED, is_short, workers),
         None => Ok(false),
     }
 }
@@ -359,9 +262,9 @@ fn is_cancel_told<T: Threads + Wait + Sync>(
 fn a_cancel_is_told(rt: HostRuntime) -> Result<(), Fail> {
     let alloc = rt.alloc();
     for workers in 1..=3 {
-        let is_calm = is_cancel_told(&rt, alloc, &CALM, workers)?;
+        let is_calm = is_cancel_told(&rt, alloc, false, workers)?;
         assert!(rt; is_calm, "nothing short, {workers} workers");
-        let is_short = is_cancel_told(&rt, alloc, &SHORT, workers)?;
+        let is_short = is_cancel_told(&rt, alloc, true, workers)?;
         assert!(rt; is_short, "all short, {workers} workers");
     }
     Ok(())
@@ -374,7 +277,7 @@ fn a_failed_read_ends_it(rt: HostRuntime) -> Result<(), Fail> {
     lines.push(b"extend 1")?;
     lines.push(b"seal")?;
     lines.fail(2)?;
-    let told = tell_lines(&rt, alloc, NEVER_OUT, 1, &mut lines)?;
+    let told = tell_lines(&rt, alloc, false, 1, &mut lines)?;
     assert_eq!(rt; told.status, Status::ReadFault);
     assert_eq!(rt; told.out.bytes(), b"target 6\n".as_slice());
     assert_eq!(rt; told.err.bytes(), b"read fault\n".as_slice());
@@ -465,7 +368,7 @@ impl<'m> Pause for HeldShares<'m> {
 fn met<T: Threads + Wait + Sync>(
     rt: &T,
     alloc: Global,
-    workers: &str,
+    workers: usize,
     held_call: u64,
     from: u32,
 ) -> Result<MemorySink, Fail> {
@@ -481,12 +384,12 @@ fn met<T: Threads + Wait + Sync>(
         meeting: &meeting,
         from,
     };
-    let options = ["--samples", "4", "--block", "2", "--workers", workers];
+    let words = format!(in alloc; "console F --samples 4 --block 2 --workers {workers}")?;
     let told = tell(
         rt,
         alloc,
         &[ZONE, ALWAYS_OUT, DAY],
-        &options,
+        &words,
         &mut lines,
         &pause,
     )?;
@@ -506,11 +409,12 @@ fn met<T: Threads + Wait + Sync>(
 #[test]
 fn workers_run_while_lines_are_read(rt: HostRuntime) -> Result<(), Fail> {
     let alloc = rt.alloc();
-    let out = met(&rt, alloc, "2", 2, 0)?;
-    let Some(report) = in_front(out.bytes(), LAST_OF_FOUR, FOUR_SHORT) else {
+    let out = met(&rt, alloc, 2, 2, 0)?;
+    let four = totals_of(alloc, 4, true)?;
+    let Some(report) = in_front(out.bytes(), LAST_OF_FOUR, &four) else {
         return Err("the final report isn't that of all four".into());
     };
-    assert!(rt; is_lawful(alloc, report, &BEGINNINGS, RUNNING_FOUR, &SHORT.few, 2)?);
+    assert!(rt; is_lawful(alloc, report, &BEGINNINGS, RUNNING_FOUR, true, 2)?);
     Ok(())
 }
 
@@ -519,8 +423,9 @@ fn workers_run_while_lines_are_read(rt: HostRuntime) -> Result<(), Fail> {
 #[test]
 fn a_report_sums_what_was_deposited(rt: HostRuntime) -> Result<(), Fail> {
     let alloc = rt.alloc();
-    let out = met(&rt, alloc, "1", 1, 2)?;
-    let wanted = format!(in alloc; "{FIRST_TWO}{ALL_SHORT}{LAST_OF_FOUR}{FOUR_SHORT}")?;
+    let out = met(&rt, alloc, 1, 1, 2)?;
+    let four = totals_of(alloc, 4, true)?;
+    let wanted = format!(in alloc; "{FIRST_TWO}{ALL_SHORT}{LAST_OF_FOUR}{four}")?;
     assert_eq!(rt; out.bytes(), wanted.as_bytes());
     Ok(())
 }

@@ -1,19 +1,12 @@
 //! What no contract says: that the workers of a study run at once and claim their shares.
 
+use super::console_tests::totals_of;
 use super::tests::{DAY, NEVER_OUT, ZONE, quietly, shelf_of, words_of};
 use ra_base::{MemorySink, Pause, Status};
 use std::sync::atomic::{AtomicU64, Ordering};
 use std::test::Fail;
 
 const TURNS: u32 = 200_000_000;
-
-const EIGHT_SAMPLES: &str = "samples 8
-hours sum 0 mean 0.000 error 0.000
-days sum 0 mean 0.000 error 0.000
-events sum 0 mean 0.000 error 0.000
-unserved sum 0 mean 0.000 error 0.000
-zone A sum 0 mean 0.000 error 0.000
-";
 
 // Holds the share that begins with sample 0 until the three behind it have come.
 #[derive(Drop)]
@@ -42,8 +35,7 @@ impl Pause for HoldsTheFirst {
 #[test]
 fn workers_run_at_once_and_claim_their_shares(rt: HostRuntime) -> Result<(), Fail> {
     let alloc = rt.alloc();
-    let options = ["--samples", "8", "--block", "2", "--workers", "2"];
-    let words = words_of(alloc, "study", &options)?;
+    let words = words_of(alloc, "study F --samples 8 --block 2 --workers 2")?;
     let mut shelf = shelf_of(alloc, &[ZONE, NEVER_OUT, DAY])?;
     let mut out = MemorySink::new(alloc, 1000)?;
     let mut err = MemorySink::new(alloc, 1000)?;
@@ -54,6 +46,6 @@ fn workers_run_at_once_and_claim_their_shares(rt: HostRuntime) -> Result<(), Fai
     let status = quietly(&rt, alloc, &words, &mut shelf, &mut out, &mut err, &pause);
     assert_eq!(rt; status, Status::Done);
     assert_eq!(rt; pause.waited.load(Ordering::SeqCst), 0);
-    assert_eq!(rt; out.bytes(), EIGHT_SAMPLES.as_bytes());
+    assert_eq!(rt; out.bytes(), totals_of(alloc, 8, false)?.as_bytes());
     Ok(())
 }

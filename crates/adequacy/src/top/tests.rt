@@ -10,15 +10,14 @@ use std::sync::Wait;
 use std::test::Fail;
 use std::thread::Threads;
 
-// A folder, the words that follow the command and the folder, and what comes of it.
+type Tables = &'static [(TableName, &'static str)];
+
+// A folder, words, and what is written.
 #[derive(Clone, Copy)]
-struct Case {
-    tables: &'static [(TableName, &'static str)],
-    command: &'static str,
-    options: &'static [&'static str],
-    status: Status,
+struct Answered {
+    tables: Tables,
+    words: &'static str,
     out: &'static str,
-    err: &'static str,
 }
 
 pub(super) const ZONE: (TableName, &str) = (TableName::Zones, "name\nA\n");
@@ -61,7 +60,7 @@ const OPEN_QUOTE: (TableName, &str) = (
     "\u{feff}fuel,repair,name,zone,failure,capacity\r\ngas,0.98,\"U, one\",A,0.02,3.0\r\ncoal, 0.98 ,U2,A,2e-2,5\r\n\"gas,0.98,U3,A,0.02,4",
 );
 
-pub(super) const NOTHING_SHORT: &str = "samples 2
+const NOTHING_SHORT: &str = "samples 2
 hours sum 0 mean 0.000 error 0.000
 days sum 0 mean 0.000 error 0.000
 events sum 0 mean 0.000 error 0.000
@@ -89,7 +88,7 @@ zone A sum 2880 mean 1440.000 error 0.000
 cut A hours 48 unserved 2880
 ";
 
-pub(super) const ONE_SAMPLE: &str = "samples 1
+const ONE_SAMPLE: &str = "samples 1
 hours sum 24 mean 24.000 error -
 days sum 1 mean 1.000 error -
 events sum 1 mean 1.000 error -
@@ -240,301 +239,130 @@ zone A sum 67 mean 67.000 error -
 cut A hours 4 unserved 67
 ";
 
-// What is known by hand: studies, checks, refused tables and refused words.
-const CASES: [Case; 30] = [
-    Case {
+// What is known by hand: what is written over a folder,
+const ANSWERED: [Answered; 15] = [
+    Answered {
         tables: &[ZONE, THREE_UNITS, ONE_HOUR],
-        command: "table",
-        options: &[],
-        status: Status::Done,
+        words: "table F",
         out: OUTAGES,
-        err: "",
     },
-    Case {
+    Answered {
         tables: &[ZONE, THREE_UNITS, ONE_HOUR],
-        command: "index",
-        options: &[],
-        status: Status::Done,
+        words: "index F",
         out: INDICES,
-        err: "",
     },
-    Case {
+    Answered {
         tables: &[ZONE, FIFTIETH_OUT, EIGHTY_MW],
-        command: "credit",
-        options: &[
-            "--kind",
-            "efc",
-            "--measure",
-            "eue",
-            "--capacity",
-            "50",
-            "--failure",
-            "0.25",
-            "--repair",
-            "0.75",
-            "--up-to",
-            "100",
-        ],
-        status: Status::Done,
+        words: "credit F --kind efc --measure eue --capacity 50 --failure 0.25 --repair 0.75 --up-to 100",
         out: WORTH,
-        err: "",
     },
-    Case {
+    Answered {
         tables: &[ZONE, FIFTIETH_OUT, EIGHTY_MW],
-        command: "credit",
-        options: &[
-            "--kind",
-            "efc",
-            "--measure",
-            "eue",
-            "--capacity",
-            "50",
-            "--failure",
-            "1",
-            "--repair",
-            "0",
-            "--up-to",
-            "100",
-        ],
-        status: Status::Done,
+        words: "credit F --kind efc --measure eue --capacity 50 --failure 1 --repair 0 --up-to 100",
         out: WORTHLESS,
-        err: "",
     },
-    Case {
-        tables: &[ZONE, FIFTIETH_OUT, EIGHTY_MW],
-        command: "credit",
-        options: &[
-            "--kind",
-            "efc",
-            "--measure",
-            "eue",
-            "--capacity",
-            "50",
-            "--failure",
-            "0",
-            "--repair",
-            "0",
-            "--up-to",
-            "100",
-        ],
-        status: Status::Words,
-        out: "",
-        err: "words: --repair is bad\n",
-    },
-    Case {
-        tables: &[ZONE, FIFTIETH_OUT, EIGHTY_MW],
-        command: "credit",
-        options: &["--kind", "efc"],
-        status: Status::Words,
-        out: "",
-        err: "words: --measure is missing\n",
-    },
-    Case {
+    Answered {
         tables: &[ZONE, NEVER_OUT, DAY],
-        command: "study",
-        options: &[
-            "--samples",
-            "2",
-            "--seed",
-            "1",
-            "--workers",
-            "4",
-            "--block",
-            "1",
-        ],
-        status: Status::Done,
+        words: "study F --samples 2 --seed 1 --workers 4 --block 1",
         out: NOTHING_SHORT,
-        err: "",
     },
-    Case {
+    Answered {
         tables: &[ZONE, ALWAYS_OUT, DAY],
-        command: "study",
-        options: &["--samples", "2"],
-        status: Status::Done,
+        words: "study F --samples 2",
         out: ALL_SHORT,
-        err: "",
     },
-    Case {
+    Answered {
         tables: &[ZONE, ALWAYS_OUT, DAY],
-        command: "study",
-        options: &["--samples", "1"],
-        status: Status::Done,
+        words: "study F --samples 1",
         out: ONE_SAMPLE,
-        err: "",
     },
-    Case {
+    Answered {
         tables: &[ZONE, ALTERNATING, TWO_HOURS],
-        command: "study",
-        options: &["--samples", "3", "--workers", "2", "--block", "2"],
-        status: Status::Done,
+        words: "study F --samples 3 --workers 2 --block 2",
         out: ONE_HOUR_EACH,
-        err: "",
     },
-    Case {
+    Answered {
         tables: &[ZONE, SPREADSHEET, ONE_HOUR],
-        command: "check",
-        options: &[],
-        status: Status::Done,
+        words: "check F",
         out: "zones 1 units 2 interfaces 0 lines 0 storages 0 hours 1 capacity 8 peak 8 hour 0\n",
-        err: "",
-    },
-    Case {
-        tables: &[ZONE, OPEN_QUOTE, ONE_HOUR],
-        command: "check",
-        options: &[],
-        status: Status::Table,
-        out: "",
-        err: "table units row 4 column -: field count\n",
-    },
-    Case {
-        tables: &[ZONE, HALF_MW, ONE_HOUR],
-        command: "check",
-        options: &[],
-        status: Status::Table,
-        out: "",
-        err: "table units row 2 column capacity: not whole at 4\n",
-    },
-    Case {
-        tables: &[ZONE, NEVER_OUT, GAP],
-        command: "check",
-        options: &[],
-        status: Status::Table,
-        out: "",
-        err: "table load row 4 column hour: hour 3, wanted 2\n",
-    },
-    Case {
-        tables: &[ZONE, NEVER_OUT],
-        command: "check",
-        options: &[],
-        status: Status::Table,
-        out: "",
-        err: "table load missing\n",
-    },
-    Case {
-        tables: &[ZONE, NO_RATE, ONE_HOUR],
-        command: "study",
-        options: &["--samples", "2", "--seed", "1"],
-        status: Status::Table,
-        out: "",
-        err: "table units row 2 column repair: both rates are zero\n",
     },
     // One sample isn't enough for a precision, and two are.
-    Case {
+    Answered {
         tables: &[ZONE, ALWAYS_OUT, DAY],
-        command: "study",
-        options: &["--precision", "10", "--samples", "1", "--most", "3"],
-        status: Status::Done,
+        words: "study F --precision 10 --samples 1 --most 3",
         out: ALL_SHORT,
-        err: "",
     },
     // The two zones together have too little, whatever goes from one to the other; with more in the first
     // zone it is the second alone, behind its interface.
-    Case {
+    Answered {
         tables: &[TWO_ZONES, SEVENTY_MW, ONE_WAY, TWO_LOADS],
-        command: "study",
-        options: &["--samples", "1"],
-        status: Status::Done,
+        words: "study F --samples 1",
         out: BOTH_SHORT,
-        err: "",
     },
-    Case {
+    Answered {
         tables: &[TWO_ZONES, NEVER_OUT, ONE_WAY, TWO_LOADS],
-        command: "study",
-        options: &["--samples", "1"],
-        status: Status::Done,
+        words: "study F --samples 1",
         out: SECOND_SHORT,
-        err: "",
     },
     // The first of two zones that want the same is served.
-    Case {
+    Answered {
         tables: &[THREE_ZONES, MIDDLE_UNIT, CHAIN, THREE_LOADS],
-        command: "study",
-        options: &["--samples", "1"],
-        status: Status::Done,
+        words: "study F --samples 1",
         out: LAST_SHORT,
-        err: "",
     },
     // A store of 60 MWh that gives nine tenths of what it loses, and no unit.
-    Case {
+    Answered {
         tables: &[ZONE, NO_UNIT, BATTERY, FOUR_HOURS],
-        command: "study",
-        options: &["--samples", "1", "--seed", "1"],
-        status: Status::Done,
+        words: "study F --samples 1 --seed 1",
         out: DRAINED,
-        err: "",
     },
-    Case {
+    Answered {
         tables: &[ZONE, NEVER_OUT, DAY],
-        command: "console",
-        options: &["--samples", "1"],
-        status: Status::Done,
+        words: "console F --samples 1",
         out: ONE_SAMPLE_REPORTED,
-        err: "",
     },
-    Case {
-        tables: &[ZONE, NEVER_OUT, DAY],
-        command: "study",
-        options: &["--samples", "1000001"],
-        status: Status::Words,
-        out: "",
-        err: "words: --samples is bad\n",
-    },
-    Case {
-        tables: &[ZONE, NEVER_OUT, DAY],
-        command: "study",
-        options: &["--samples", "0"],
-        status: Status::Words,
-        out: "",
-        err: "words: --samples is bad\n",
-    },
-    Case {
-        tables: &[ZONE, NEVER_OUT, DAY],
-        command: "study",
-        options: &["--samples"],
-        status: Status::Words,
-        out: "",
-        err: "words: usage\n",
-    },
-    Case {
-        tables: &[ZONE, NEVER_OUT, DAY],
-        command: "study",
-        options: &["--seed", "1"],
-        status: Status::Words,
-        out: "",
-        err: "words: --samples is missing\n",
-    },
-    Case {
-        tables: &[ZONE, NEVER_OUT, DAY],
-        command: "study",
-        options: &["--samples", "2", "--seed", "x"],
-        status: Status::Words,
-        out: "",
-        err: "words: --seed is bad\n",
-    },
-    Case {
-        tables: &[ZONE, NEVER_OUT, DAY],
-        command: "study",
-        options: &["--samples", "2", "--seed", "1", "--seed", "1"],
-        status: Status::Words,
-        out: "",
-        err: "words: usage\n",
-    },
-    Case {
-        tables: &[ZONE, NEVER_OUT, DAY],
-        command: "check",
-        options: &["--samples", "2"],
-        status: Status::Words,
-        out: "",
-        err: "words: --samples is not for check\n",
-    },
-    Case {
-        tables: &[ZONE, NEVER_OUT, DAY],
-        command: "steady",
-        options: &[],
-        status: Status::Words,
-        out: "",
-        err: "words: no such command\n",
-    },
+];
+
+// tables that are refused, and the line that says so,
+const REFUSED_TABLES: [(Tables, &str, &str); 5] = [
+    (
+        &[ZONE, OPEN_QUOTE, ONE_HOUR],
+        "check F",
+        "table units row 4 column -: field count\n",
+    ),
+    (
+        &[ZONE, HALF_MW, ONE_HOUR],
+        "check F",
+        "table units row 2 column capacity: not whole at 4\n",
+    ),
+    (
+        &[ZONE, NEVER_OUT, GAP],
+        "check F",
+        "table load row 4 column hour: hour 3, wanted 2\n",
+    ),
+    (&[ZONE, NEVER_OUT], "check F", "table load missing\n"),
+    (
+        &[ZONE, NO_RATE, ONE_HOUR],
+        "study F --samples 2 --seed 1",
+        "table units row 2 column repair: both rates are zero\n",
+    ),
+];
+
+// and words that are, whatever the folder holds.
+const REFUSED_WORDS: [(&str, &str); 10] = [
+    (
+        "credit F --kind efc --measure eue --capacity 50 --failure 0 --repair 0 --up-to 100",
+        "words: --repair is bad\n",
+    ),
+    ("credit F --kind efc", "words: --measure is missing\n"),
+    ("study F --samples 1000001", "words: --samples is bad\n"),
+    ("study F --samples 0", "words: --samples is bad\n"),
+    ("study F --samples", "words: usage\n"),
+    ("study F --seed 1", "words: --samples is missing\n"),
+    ("study F --samples 2 --seed x", "words: --seed is bad\n"),
+    ("study F --samples 2 --seed 1 --seed 1", "words: usage\n"),
+    ("check F --samples 2", "words: --samples is not for check\n"),
+    ("steady F", "words: no such command\n"),
 ];
 
 // A sink that counts its writes.
@@ -563,8 +391,9 @@ impl CountedSink {
         })
     }
 
-    fn holds(&self, text: &str) -> bool {
-        self.inner.bytes() == text.as_bytes()
+    // Whether the text was written at once, or nothing where it is empty.
+    fn gained(&self, text: &str) -> bool {
+        self.inner.bytes() == text.as_bytes() && self.writes == u32::from(!text.is_empty())
     }
 }
 
@@ -576,16 +405,10 @@ pub(super) fn shelf_of(alloc: Global, tables: &[(TableName, &str)]) -> Result<Me
     Ok(shelf)
 }
 
-pub(super) fn words_of(
-    alloc: Global,
-    command: &str,
-    options: &[&str],
-) -> Result<Vec<String>, Fail> {
+pub(super) fn words_of(alloc: Global, text: &str) -> Result<Vec<String>, Fail> {
     let mut words = Vec::new(alloc);
-    words.push(String::from_str(alloc, command)?)?;
-    words.push(String::from_str(alloc, "F")?)?;
-    for option in options {
-        words.push(String::from_str(alloc, option)?)?;
+    for word in text.split(' ') {
+        words.push(String::from_str(alloc, word)?)?;
     }
     Ok(words)
 }
@@ -607,22 +430,57 @@ pub(super) fn quietly<T: Threads + Wait + Sync, O: Sink + Send, E: Sink, P: Paus
     )
 }
 
-// The status and what both sinks hold; each is written to once where it gains something, and else never.
+// How words over a folder ended, and what was written.
+#[derive(Drop)]
+struct Ended {
+    status: Status,
+    out: CountedSink,
+    err: CountedSink,
+}
+
+impl Ended {
+    fn is_refused(&self, status: Status, line: &str) -> bool {
+        self.status == status && self.out.gained("") && self.err.gained(line)
+    }
+}
+
+fn end_of<T: Threads + Wait + Sync>(
+    rt: &T,
+    alloc: Global,
+    tables: &[(TableName, &str)],
+    words: &str,
+) -> Result<Ended, Fail> {
+    let words = words_of(alloc, words)?;
+    let mut shelf = shelf_of(alloc, tables)?;
+    let mut out = CountedSink::new(alloc, 1000)?;
+    let mut err = CountedSink::new(alloc, 1000)?;
+    let status = quietly(rt, alloc, &words, &mut shelf, &mut out, &mut err, &NoPause);
+    Ok(Ended { status, out, err })
+}
+
 #[test]
 fn answers(rt: HostRuntime) -> Result<(), Fail> {
-    let alloc = rt.alloc();
-    for number in 0..CASES.len() {
-        let case = CASES[number];
-        let words = words_of(alloc, case.command, case.options)?;
-        let mut shelf = shelf_of(alloc, case.tables)?;
-        let mut out = CountedSink::new(alloc, 1000)?;
-        let mut err = CountedSink::new(alloc, 1000)?;
-        let status = quietly(&rt, alloc, &words, &mut shelf, &mut out, &mut err, &NoPause);
-        assert_eq!(rt; status, case.status, "case {number}");
-        assert!(rt; out.holds(case.out), "case {number}");
-        assert!(rt; err.holds(case.err), "case {number}");
-        assert_eq!(rt; out.writes, u32::from(!case.out.is_empty()));
-        assert_eq!(rt; err.writes, u32::from(!case.err.is_empty()));
+    for number in 0..ANSWERED.len() {
+        let case = ANSWERED[number];
+        let ended = end_of(&rt, rt.alloc(), case.tables, case.words)?;
+        assert_eq!(rt; ended.status, Status::Done, "case {number}");
+        assert!(rt; ended.out.gained(case.out), "case {number}");
+        assert!(rt; ended.err.gained(""), "case {number}");
+    }
+    Ok(())
+}
+
+#[test]
+fn refusals(rt: HostRuntime) -> Result<(), Fail> {
+    for number in 0..REFUSED_TABLES.len() {
+        let (tables, words, line) = REFUSED_TABLES[number];
+        let ended = end_of(&rt, rt.alloc(), tables, words)?;
+        assert!(rt; ended.is_refused(Status::Table, line), "tables {number}");
+    }
+    for number in 0..REFUSED_WORDS.len() {
+        let (words, line) = REFUSED_WORDS[number];
+        let ended = end_of(&rt, rt.alloc(), &[ZONE, NEVER_OUT, DAY], words)?;
+        assert!(rt; ended.is_refused(Status::Words, line), "words {number}");
     }
     Ok(())
 }
@@ -632,7 +490,7 @@ fn answers(rt: HostRuntime) -> Result<(), Fail> {
 #[test]
 fn faults(rt: HostRuntime) -> Result<(), Fail> {
     let alloc = rt.alloc();
-    let words = words_of(alloc, "study", &["--samples", "2", "--seed", "1"])?;
+    let words = words_of(alloc, "study F --samples 2 --seed 1")?;
     let text = NOTHING_SHORT.as_bytes();
     for (capacity, fails, room) in [
         (0, 0, 100),

@@ -1,6 +1,6 @@
 //! Trials and a planner's folder: the same bytes for every number of workers.
 
-use super::tests::quietly;
+use super::tests::{quietly, words_of};
 use ra_base::{
     MemoryConsole, MemoryShelf, MemorySink, NoPause, Status, TableBytes, TableName, Text,
 };
@@ -20,16 +20,13 @@ const CHECK_OF_20: &str =
 fn written<T: Threads + Wait + Sync>(
     rt: &T,
     alloc: Global,
-    words: &[&str],
+    words: &str,
     shelf: &mut MemoryShelf,
 ) -> Result<MemorySink, Fail> {
-    let mut list = Vec::new(alloc);
-    for word in words {
-        list.push(String::from_str(alloc, word)?)?;
-    }
+    let words = words_of(alloc, words)?;
     let mut out = MemorySink::new(alloc, 2_000)?;
     let mut err = MemorySink::new(alloc, 100)?;
-    match quietly(rt, alloc, &list, shelf, &mut out, &mut err, &NoPause) {
+    match quietly(rt, alloc, &words, shelf, &mut out, &mut err, &NoPause) {
         Status::Done => Ok(out),
         _ => Err("not answered".into()),
     }
@@ -40,19 +37,10 @@ fn written<T: Threads + Wait + Sync>(
 fn workers_write_the_bytes_of_one(rt: HostRuntime) -> Result<(), Fail> {
     let alloc = rt.alloc();
     let mut shelf = MemoryShelf::new(alloc);
-    let one = ["trial", "7", "--samples", "200", "--block", "7"];
-    let four = [
-        "trial",
-        "7",
-        "--samples",
-        "200",
-        "--block",
-        "7",
-        "--workers",
-        "4",
-    ];
-    let alone = written(&rt, alloc, &one, &mut shelf)?;
-    let together = written(&rt, alloc, &four, &mut shelf)?;
+    let one = "trial 7 --samples 200 --block 7";
+    let four = "trial 7 --samples 200 --block 7 --workers 4";
+    let alone = written(&rt, alloc, one, &mut shelf)?;
+    let together = written(&rt, alloc, four, &mut shelf)?;
     assert!(rt; alone.bytes().starts_with(CHECK_OF_7.as_bytes()));
     assert_eq!(rt; together.bytes(), alone.bytes());
     Ok(())
@@ -83,15 +71,10 @@ fn shelf_of(alloc: Global, tables: &TableBytes) -> Result<MemoryShelf, Fail> {
 fn a_planners_folder(rt: HostRuntime) -> Result<(), Fail> {
     let alloc = rt.alloc();
     let mut shelf = shelf_of(alloc, &make_tables(alloc, 20)?)?;
-    let check = written(&rt, alloc, &["check", "F"], &mut shelf)?;
+    let check = written(&rt, alloc, "check F", &mut shelf)?;
     assert_eq!(rt; check.bytes(), CHECK_OF_20.as_bytes());
-    let one = written(&rt, alloc, &["study", "F", "--samples", "20"], &mut shelf)?;
-    let made = written(
-        &rt,
-        alloc,
-        &["trial", "20", "--samples", "20", "--workers", "4"],
-        &mut shelf,
-    )?;
+    let one = written(&rt, alloc, "study F --samples 20", &mut shelf)?;
+    let made = written(&rt, alloc, "trial 20 --samples 20 --workers 4", &mut shelf)?;
     assert_eq!(rt;
         made.bytes().strip_prefix(CHECK_OF_20.as_bytes()),
         Some(one.bytes())

@@ -4,14 +4,11 @@ use denote.RattleType.{RattleType}
 use denote.Exit.{no}
 use denote.Param.{arg, param}
 use denote.Param.Send.{IsSend, sendable, param_send, arg_send}
-use denote.Param.SendFields.{declared_send, owner_send}
-use Rattle.ra_base.specs.contracts.line_log.LineLog as log
+use denote.Param.SendFields.{declared_send}
+use Rattle.ra_base.proofs.Crossing.{log_send}
 use Rattle.adequacy_main.specs.contracts.std_console.Lines as lines
 use Rattle.adequacy_main.specs.contracts.std_console.StdConsole as console
 use Rattle.adequacy_main.proofs.run.Goals as goal
-
-log_send : IsSend log.the_row
-log_send = owner_send log.the_type tt (λ d. tt) (λ k x w. tt)
 
 lines_send : (F : RattleType) → IsSend F → IsSend (lines.the_row F)
 lines_send F f =

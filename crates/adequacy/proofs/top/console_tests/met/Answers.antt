@@ -4,7 +4,7 @@ use denote.Exit.{no}
 use denote.Param.{arg}
 use denote.Param.Send.{IsSend, sendable, param_send, arg_send}
 use denote.Param.SendFields.{declared_send, as_row_send}
-use Rattle.campaign_console.proofs.Crossing.{console_send}
+use Rattle.ra_base.proofs.Crossing.{console_send}
 use Rattle.adequacy.proofs.top.console_tests.Meeting.TheSendSync as meeting
 use Rattle.adequacy.specs.contracts.top.console_tests.HeldConsole as held
 use Rattle.adequacy.proofs.top.console_tests.met.Goals as goal

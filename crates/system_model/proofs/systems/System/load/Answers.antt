@@ -1,35 +1,29 @@
-use Rattle.std.proofs.Common.{◌≡◌, ◌<◌, ◌≤◌, ◌*◌, ◌+◌, ℕ, length, ap, sym, ◌∙◌, rules, arith, subst, get_or}
+use Rattle.std.proofs.Common.{◌≡◌, ◌≤◌, ◌*◌, ◌+◌, ℕ, length, ap, sym, ◌∙◌, rules, arith, subst, get_or}
 use Rattle.std.proofs.lemmas.List.{get_or_default}
 use Rattle.ra_base.specs.declared.limits.TheConstants.{MOST_POOLED_MW}
-use Rattle.system_model.specs.System.{SystemParts, IsValid, hour_count, zone_count, hourly_load}
-use Rattle.system_model.proofs.HourLists.{length-hours_of, place_in_range, load-hours_of}
-use Rattle.system_model.proofs.SystemReads.{hourly_load-le}
+use Rattle.system_model.specs.System.{SystemParts, IsValid, hourly_load}
+use Rattle.system_model.proofs.HourLists.{load-hours_of}
+use Rattle.system_model.proofs.SystemReads.{stands, hourly_load-le}
 use Rattle.system_model.proofs.systems.System.load.Goals as goal
 
 pub index-requires : goal.index-requires
 index-requires c =
     let zones : c.len.result ≡ length c.self.inside.parts.zone_names.items = search rules in
-    let hours : c.self.inside.parts.hours ≡ hour_count c.args.self.now =
-    sym (length-hours_of _ _ _ _) ∙ ap hour_count c.self.view_is in
-    let among : length c.self.inside.parts.zone_names.items ≡ zone_count c.args.self.now = ap zone_count c.self.view_is in
-    let place : c.args.hour * c.len.result + c.args.zone < length c.self.inside.parts.load.items =
-    place_in_range c.len.result c.self.inside.parts.hours c.self.inside.parts.load.items c.args.hour c.args.zone
-    (rw zones c.self.invariant.filled.load_size) (omega arith) (omega arith) in
-    search (rules, place)
+    let at =
+    stands c.self.inside.parts c.args.self.now c.len.result c.args.hour c.args.zone c.self.view_is zones
+    c.self.invariant.filled c.requires.hour c.requires.zone in
+    search (rules, at.load)
 
 pub returns-clause-value : goal.returns-clause-value
 returns-clause-value c =
     let zones : c.len.result ≡ length c.self.inside.parts.zone_names.items = search rules in
-    let hours : c.self.inside.parts.hours ≡ hour_count c.args.self.now =
-    sym (length-hours_of _ _ _ _) ∙ ap hour_count c.self.view_is in
-    let among : length c.self.inside.parts.zone_names.items ≡ zone_count c.args.self.now = ap zone_count c.self.view_is in
-    let place : c.args.hour * c.len.result + c.args.zone < length c.self.inside.parts.load.items =
-    place_in_range c.len.result c.self.inside.parts.hours c.self.inside.parts.load.items c.args.hour c.args.zone
-    (rw zones c.self.invariant.filled.load_size) (omega arith) (omega arith) in
+    let at =
+    stands c.self.inside.parts c.args.self.now c.len.result c.args.hour c.args.zone c.self.view_is zones
+    c.self.invariant.filled c.requires.hour c.requires.zone in
     c.index.ensures
-    ∙ get_or_default c.self.inside.parts.load.items (c.args.hour * c.len.result + c.args.zone) c.index.result.now 0 place
+    ∙ get_or_default c.self.inside.parts.load.items (c.args.hour * c.len.result + c.args.zone) c.index.result.now 0 at.load
     ∙ ap (λ (n : ℕ). get_or c.self.inside.parts.load.items (c.args.hour * n + c.args.zone) 0) zones
-    ∙ sym (load-hours_of (length c.self.inside.parts.zone_names.items) c.self.inside.parts.hours c.self.inside.parts.load.items c.self.inside.parts.variable.items c.args.hour c.args.zone (omega arith) (omega arith))
+    ∙ sym (load-hours_of (length c.self.inside.parts.zone_names.items) c.self.inside.parts.hours c.self.inside.parts.load.items c.self.inside.parts.variable.items c.args.hour c.args.zone at.hour at.zone)
     ∙ ap (λ (s : SystemParts). hourly_load s c.args.hour c.args.zone) c.self.view_is
 
 pub returns-clause-range : goal.returns-clause-range
