@@ -301,12 +301,3 @@ fn answer_text<R: Recorder>(
         },
     }
 }
-
-#[cfg(test)]
-mod console_tests;
-#[cfg(test)]
-mod schedule_tests;
-#[cfg(test)]
-mod tests;
-#[cfg(test)]
-mod trial_tests;

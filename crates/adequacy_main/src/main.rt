@@ -82,8 +82,4 @@ fn main(rt: HostRuntime) -> ExitCode {
 }
 
 #[cfg(test)]
-mod planner_tests;
-#[cfg(test)]
 mod tests;
-#[cfg(test)]
-mod trace_tests;

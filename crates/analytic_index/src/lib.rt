@@ -10,6 +10,3 @@ mod pool;
 pub use analysis::Analysis;
 pub use indices::Index;
 pub use pool::NewUnit;
-
-#[cfg(test)]
-mod tests;

@@ -14,6 +14,3 @@ pub use calls::{Claim, Extend};
 pub use campaign::{Campaign, Counted, Pass, Shared};
 pub use ending::{Finished, NotFinished};
 pub use reports::Interim;
-
-#[cfg(test)]
-mod tests;

@@ -14,6 +14,3 @@ pub use consoles::{ConsoleDone, ConsoleEnd, console};
 pub use lines::LinesEnd;
 pub use requests::Request;
 pub use together::Ran;
-
-#[cfg(test)]
-mod tests;

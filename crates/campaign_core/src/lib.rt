@@ -21,6 +21,3 @@ pub use run::{Run, SampleRange};
 pub use runs::Runs;
 pub use share::Share;
 pub use work::{Booked, Done, Job, Work};
-
-#[cfg(test)]
-mod tests;

@@ -8,6 +8,3 @@ mod working;
 
 pub use studies::study;
 pub use working::{WorkEnd, Worked, work, work_on};
-
-#[cfg(test)]
-mod tests;

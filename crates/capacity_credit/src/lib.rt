@@ -10,6 +10,3 @@ mod steps;
 pub use brackets::{Bracket, credit};
 pub use questions::{Kind, Measure};
 pub use steps::Steps;
-
-#[cfg(test)]
-mod tests;

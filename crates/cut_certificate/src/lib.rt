@@ -19,6 +19,3 @@ pub use certificates::check_chain;
 pub use chains::Chain;
 pub use cuts::check_cut;
 pub use flow_lists::Flows;
-
-#[cfg(test)]
-mod tests;

@@ -11,6 +11,3 @@ mod writing;
 pub use fault::NumberFault;
 pub use reading::{read_billionths, read_whole};
 pub use writing::{put_fixed, put_whole, texts_are_read_again};
-
-#[cfg(test)]
-mod tests;

@@ -11,6 +11,3 @@ pub use arithmetic::{add, mix, scale};
 pub use enclosure::Enclosure;
 pub use places::{put_high, put_low};
 pub use share::Share;
-
-#[cfg(test)]
-mod tests;

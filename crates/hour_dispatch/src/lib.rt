@@ -18,6 +18,3 @@ mod serving;
 mod starting;
 
 pub use dispatcher::Dispatcher;
-
-#[cfg(test)]
-mod tests;

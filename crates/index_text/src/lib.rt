@@ -10,6 +10,3 @@ mod outages;
 pub use credit::put_bracket;
 pub use index::put_index;
 pub use outages::put_table;
-
-#[cfg(test)]
-mod tests;

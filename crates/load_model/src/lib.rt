@@ -7,6 +7,3 @@ mod loads;
 
 pub use hours::{NetHour, Peak};
 pub use loads::NetLoad;
-
-#[cfg(test)]
-mod tests;

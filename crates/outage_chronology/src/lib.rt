@@ -4,8 +4,6 @@
 mod chronologies;
 mod components;
 mod masks;
-#[cfg(test)]
-mod tests;
 mod thresholds;
 
 pub use chronologies::Chronology;

@@ -13,6 +13,3 @@ mod units;
 pub use error::AddError;
 pub use table::OutageTable;
 pub use units::PooledUnit;
-
-#[cfg(test)]
-mod tests;

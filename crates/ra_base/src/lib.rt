@@ -34,6 +34,3 @@ pub use sink::{Sink, SinkFault};
 pub use status::Status;
 pub use table::{TableBytes, TableName};
 pub use text::Text;
-
-#[cfg(test)]
-mod tests;

@@ -6,8 +6,6 @@ mod counted;
 mod faults;
 mod gates;
 mod names;
-#[cfg(test)]
-mod tests;
 mod totals;
 
 pub use checks::put_check;

@@ -9,8 +9,6 @@ mod plain;
 mod refusing_plain;
 mod shortfall;
 mod storage_level;
-#[cfg(test)]
-mod tests;
 
 pub use binding_cut::BindingCut;
 pub use plain::Plain;

@@ -9,8 +9,6 @@ mod network;
 mod ranges;
 mod runner;
 mod shapes;
-#[cfg(test)]
-mod tests;
 mod traces;
 mod up_sums;
 mod work;

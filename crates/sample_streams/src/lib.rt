@@ -4,8 +4,6 @@
 
 mod draw;
 mod hour_draws;
-#[cfg(test)]
-mod tests;
 mod words;
 
 pub use draw::SampleStream;

@@ -6,8 +6,6 @@ mod estimates;
 mod outcomes;
 mod recorder;
 mod results;
-#[cfg(test)]
-mod tests;
 mod totals;
 mod unserved;
 

@@ -3,7 +3,5 @@
 
 mod energies;
 mod storages;
-#[cfg(test)]
-mod tests;
 
 pub use storages::{Caps, Storages};

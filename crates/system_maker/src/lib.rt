@@ -10,6 +10,3 @@ mod names;
 mod tables;
 
 pub use made::{make, make_tables};
-
-#[cfg(test)]
-mod tests;

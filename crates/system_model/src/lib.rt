@@ -13,6 +13,3 @@ mod systems;
 pub use components::{Interface, Line, Rates, Storage, Unit};
 pub use drafts::Draft;
 pub use systems::System;
-
-#[cfg(test)]
-mod tests;

@@ -19,6 +19,3 @@ mod zones;
 
 pub use faults::{Cause, Column, ReadError, TableFault};
 pub use tables::read_system;
-
-#[cfg(test)]
-mod tests;

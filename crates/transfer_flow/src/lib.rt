@@ -13,7 +13,3 @@ mod ways;
 
 pub use flows::Flow;
 pub use pulls::Pull;
-
-#[cfg(test)]
-#[tactic(auto, using(crate::proofs::Laws::no_flow_within))]
-mod tests;

@@ -13,6 +13,3 @@ mod words;
 pub use books::Closed;
 pub use seats::{BookSeat, Held, TurnBook};
 pub use view::{Opening, View};
-
-#[cfg(test)]
-mod tests;

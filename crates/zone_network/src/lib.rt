@@ -14,6 +14,3 @@ pub use links::Link;
 pub use masks::{has_zone, with_zone};
 pub use networks::Network;
 pub use shapes::Shape;
-
-#[cfg(test)]
-mod tests;

@@ -1,0 +1,6 @@
+use Rattle.ra_base.proofs.Crossing.{console_arg_send}
+use Rattle.adequacy_tests.proofs.answers.quietly.Goals as goal
+
+pub adequacy-requires-send-C : goal.adequacy-requires-send-C
+adequacy-requires-send-C g c κs within =
+    record { owned = λ x vs. (console_arg_send 2).owned x vs; leaving = λ k x w. (console_arg_send 2).leaving k x w }

@@ -1,9 +1,0 @@
-use Rattle.turn_book.specs.Views.{IsSameSeat}
-use Rattle.campaign.specs.Passes.{IsOf, pass_of}
-use Rattle.campaign.proofs.tests.worked.Given as goal
-
-abbrev pub invariant-loop : goal.invariant-loop
-invariant-loop g l = record {
-  pass : IsOf l.campaign l.pass;
-  same : IsSameSeat (pass_of l.initial.pass) (pass_of l.pass);
-}

@@ -1,6 +1,0 @@
-use Rattle.std.proofs.Common.{sym}
-use Rattle.campaign_core.proofs.Totals.{total-nil}
-use Rattle.campaign_core.proofs.tests.CountingWork.empty.Goals as goal
-
-pub returns : goal.returns
-returns c = sym (total-nil (λ sample. 1))

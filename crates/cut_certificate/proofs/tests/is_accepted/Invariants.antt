@@ -1,9 +1,0 @@
-use Rattle.std.proofs.Common.{◌≡◌, length}
-use Rattle.cut_certificate.proofs.tests.is_accepted.Given as goal
-
-abbrev pub invariant-loop-l : goal.invariant-loop-l
-invariant-loop-l g l = record {
-  flows : length l.chain.flows ≡ length l.initial.chain.flows;
-  generation : l.chain.generation ≡ l.initial.chain.generation;
-  sets : l.chain.sets ≡ l.initial.chain.sets;
-}

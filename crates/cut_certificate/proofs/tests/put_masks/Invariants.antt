@@ -1,8 +1,0 @@
-use Rattle.std.proofs.Common.{◌≡◌, ◌<◌, ◌^◌, All, length}
-use Rattle.cut_certificate.proofs.tests.put_masks.Given as goal
-
-abbrev pub invariant-loop-i : goal.invariant-loop-i
-invariant-loop-i g l = record {
-  size : length l.sets ≡ length l.fn.sets;
-  masks : All (λ mask. mask < 2 ^ l.zones) l.sets;
-}

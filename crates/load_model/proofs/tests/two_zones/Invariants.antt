@@ -1,7 +1,0 @@
-use Rattle.std.proofs.Common.{◌≡◌, length}
-use Rattle.system_model.specs.System.{zone_count, hour_count}
-use Rattle.load_model.proofs.tests.two_zones.Given as goal
-
-abbrev pub invariant-hours : goal.invariant-hours
-invariant-hours g l =
-    (zone_count l.draft ≡ 2) × (hour_count l.draft ≡ l.north-index) × (length l.load ≡ 2) × (length l.variable ≡ 2)

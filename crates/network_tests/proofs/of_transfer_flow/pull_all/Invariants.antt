@@ -1,0 +1,10 @@
+use Rattle.std.proofs.Common.{◌≡◌}
+use Rattle.transfer_flow.specs.Flow.{IsWithinLimits}
+use Rattle.network_tests.proofs.of_transfer_flow.pull_all.Given as goal
+
+abbrev pub invariant-loop-goal : goal.invariant-loop-goal
+invariant-loop-goal g l =
+    record {
+      shape : l.flow.shape ≡ l.net.shape;
+      limits : IsWithinLimits l.net l.flow;
+    }
