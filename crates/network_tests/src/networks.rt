@@ -14,7 +14,7 @@ pub(crate) type LinkRow = (u8, u8, u32, u32);
 /// A storage: its zone, and its caps of discharge and of charge.
 pub(crate) type DeviceRow = (u8, u32, u32);
 
-#[derive(Drop)]
+#[derive(Clone, Copy)]
 pub(crate) struct Grid<'a> {
     pub(crate) supply: &'a [u32],
     pub(crate) load: &'a [u32],
