@@ -1,13 +1,5 @@
-use crate::traces::words_in;
-use adequacy::adequacy;
-use ra_base::{
-    MemoryConsole, MemoryShelf, MemorySink, NoPause, Status, TableBytes, TableName, Text,
-};
-use sample_totals::Recorder;
-use std::alloc::Global;
-use std::sync::Wait;
+use crate::trials::{shelf_of, written};
 use std::test::Fail;
-use std::thread::Threads;
 use system_maker::make_tables;
 
 // A program of sixty digits gives 8.8317928139641 hours and 846.9547099774064 MWh; with the new unit and 92 MW
@@ -18,46 +10,6 @@ const CREDIT: &str = "credit elcc eue\ntarget low 846.9547099";
 
 const UNIT: &str =
     "credit F --kind elcc --measure eue --capacity 100 --failure 0.001 --repair 0.02 --up-to 200";
-
-fn put(shelf: &mut MemoryShelf, table: TableName, text: &Option<Text>) -> Result<(), Fail> {
-    if let Some(text) = text {
-        shelf.put("F", table, text.bytes())?;
-    }
-    Ok(())
-}
-
-fn shelf_of(alloc: Global, tables: &TableBytes) -> Result<MemoryShelf, Fail> {
-    let mut shelf = MemoryShelf::new(alloc);
-    put(&mut shelf, TableName::Zones, &tables.zones)?;
-    put(&mut shelf, TableName::Units, &tables.units)?;
-    put(&mut shelf, TableName::Interfaces, &tables.interfaces)?;
-    put(&mut shelf, TableName::Lines, &tables.lines)?;
-    put(&mut shelf, TableName::Storages, &tables.storages)?;
-    put(&mut shelf, TableName::Load, &tables.load)?;
-    put(&mut shelf, TableName::Variable, &tables.variable)?;
-    Ok(shelf)
-}
-
-// What these words write.
-fn written<T: Threads + Wait + Sync>(
-    rt: &T,
-    alloc: Global,
-    words: &str,
-    shelf: &mut MemoryShelf,
-) -> Result<MemorySink, Fail> {
-    let words = words_in(alloc, words)?;
-    let mut lines = MemoryConsole::new(alloc);
-    let mut out = MemorySink::new(alloc, 2_000_000)?;
-    let mut err = MemorySink::new(alloc, 100)?;
-    let mut none: Vec<Box<dyn Recorder>> = Vec::new(alloc);
-    let status = adequacy(
-        rt, alloc, &words, shelf, &mut lines, &mut out, &mut err, &NoPause, &mut none,
-    );
-    match status {
-        Status::Done => Ok(out),
-        _ => Err("not answered".into()),
-    }
-}
 
 // The indices of 96 units lie in their enclosures, and a new unit is worth between 92 and 93 MW.
 #[test]

@@ -1,6 +1,7 @@
 ghost use Rattle.std.specs.Prelude.{◌≡◌, ◌++◌, OnOk, OnErr, codes, false};
 ghost use Rattle.sample_totals.specs.Recorders.{Seen, is_refused};
 
+use crate::answers::{shelf_of, words_of};
 use adequacy::adequacy;
 use ra_base::{
     MemoryConsole, MemoryShelf, MemorySink, NoPause, OutOfMemory, Status, TableName, Text,
@@ -238,22 +239,6 @@ const CASES: [Case; 15] = [
     },
 ];
 
-fn shelf_of(alloc: Global, tables: &[(TableName, &str)]) -> Result<MemoryShelf, Fail> {
-    let mut shelf = MemoryShelf::new(alloc);
-    for (table, text) in tables {
-        shelf.put("F", *table, text.as_bytes())?;
-    }
-    Ok(shelf)
-}
-
-pub(crate) fn words_in(alloc: Global, text: &str) -> Result<Vec<String>, Fail> {
-    let mut words = Vec::new(alloc);
-    for word in text.split(' ') {
-        words.push(String::from_str(alloc, word)?)?;
-    }
-    Ok(words)
-}
-
 // Which recorders are left, with which texts, and that these are what was written where all was.
 #[test]
 fn traces(rt: HostRuntime) -> Result<(), Fail> {
@@ -276,7 +261,7 @@ fn traces(rt: HostRuntime) -> Result<(), Fail> {
                 Made::Refusing(at) => Box::new(alloc, RefusingPlain::new(alloc, at))?,
             })?;
         }
-        let words = words_in(alloc, case.words)?;
+        let words = words_of(alloc, case.words)?;
         let mut shelf = shelf_of(alloc, case.tables)?;
         let mut out = MemorySink::new(alloc, 1000)?;
         let mut err = MemorySink::new(alloc, 1000)?;

@@ -17,14 +17,14 @@ const CHECK_OF_20: &str =
     "zones 3 units 96 interfaces 3 lines 5 storages 2 hours 8784 capacity 7200 peak 6420 hour 180\n";
 
 // What is written for these words, which are answered.
-fn written<T: Threads + Wait + Sync>(
+pub(crate) fn written<T: Threads + Wait + Sync>(
     rt: &T,
     alloc: Global,
     words: &str,
     shelf: &mut MemoryShelf,
 ) -> Result<MemorySink, Fail> {
     let words = words_of(alloc, words)?;
-    let mut out = MemorySink::new(alloc, 2_000)?;
+    let mut out = MemorySink::new(alloc, 2_000_000)?;
     let mut err = MemorySink::new(alloc, 100)?;
     match quietly(rt, alloc, &words, shelf, &mut out, &mut err, &NoPause) {
         Status::Done => Ok(out),
@@ -53,7 +53,7 @@ fn put(shelf: &mut MemoryShelf, table: TableName, text: &Option<Text>) -> Result
     Ok(())
 }
 
-fn shelf_of(alloc: Global, tables: &TableBytes) -> Result<MemoryShelf, Fail> {
+pub(crate) fn shelf_of(alloc: Global, tables: &TableBytes) -> Result<MemoryShelf, Fail> {
     let mut shelf = MemoryShelf::new(alloc);
     put(&mut shelf, TableName::Zones, &tables.zones)?;
     put(&mut shelf, TableName::Units, &tables.units)?;

@@ -314,7 +314,7 @@ fn line(interface: u8, forward: u32, backward: u32, f: u32, r: u32) -> Line {
 }
 
 // 60,000 kWh, full at the start, 20 MW each way; it gives nine tenths of what it loses.
-const LOSSY: Storage = Storage {
+pub(crate) const LOSSY: Storage = Storage {
     zone: 0,
     charge: 20,
     discharge: 20,
@@ -327,7 +327,7 @@ const LOSSY: Storage = Storage {
 };
 
 // 100,000 kWh, empty at the start, 30 MW each way; it keeps nine tenths of what it takes in.
-const EMPTY: Storage = Storage {
+pub(crate) const EMPTY: Storage = Storage {
     zone: 0,
     charge: 30,
     discharge: 30,

@@ -1,3 +1,4 @@
+use crate::of_sample_run::{EMPTY, LOSSY};
 use ra_base::{Amounts, OutOfMemory};
 use std::alloc::Global;
 use storage_state::{Caps, Storages};
@@ -5,32 +6,6 @@ use system_model::{Draft, Rates, Storage, System};
 
 // A value that may move between threads, and that they may share.
 fn is_shared<T: Send + Sync>(_value: &T) {}
-
-// It gives nine tenths of what it loses.
-const LOSSY: Storage = Storage {
-    zone: 0,
-    charge: 20,
-    discharge: 20,
-    energy: 60_000,
-    start: 60_000,
-    charge_eff: 1_000,
-    discharge_eff: 900,
-    carry: 1_000,
-    rates: Rates { f: 0, r: 1 },
-};
-
-// It keeps nine tenths of what it takes in.
-const EMPTY: Storage = Storage {
-    zone: 0,
-    charge: 30,
-    discharge: 30,
-    energy: 100_000,
-    start: 0,
-    charge_eff: 900,
-    discharge_eff: 1_000,
-    carry: 1_000,
-    rates: Rates { f: 0, r: 1 },
-};
 
 // It loses a thousandth from hour to hour.
 const LEAKY: Storage = Storage {
