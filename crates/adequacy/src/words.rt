@@ -16,6 +16,3 @@ pub use fault_text::put_word_fault;
 pub use line::{Line, Place};
 pub use reading::read_words;
 pub use request::{ConsoleTerms, CreditTerms, Request, StudyTerms, TraceTerms};
-
-#[cfg(test)]
-mod tests;

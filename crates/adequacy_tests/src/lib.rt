@@ -13,3 +13,5 @@ mod schedule;
 mod traces;
 #[cfg(test)]
 mod trials;
+#[cfg(test)]
+mod words;

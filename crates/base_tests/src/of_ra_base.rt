@@ -1,9 +1,9 @@
 use ra_base::*;
 use std::test::Fail;
 
-// A text grows by pieces, also where room was made for more, and amounts are set one by one.
+// A text grows by pieces, also where room was made for more.
 #[test]
-fn texts_and_amounts(rt: HostRuntime) -> Result<(), Fail> {
+fn texts(rt: HostRuntime) -> Result<(), Fail> {
     let mut text = Text::new(rt.alloc());
     text.push(b"LOLE")?;
     text.reserve(100)?;
@@ -12,12 +12,25 @@ fn texts_and_amounts(rt: HostRuntime) -> Result<(), Fail> {
     assert_eq!(rt; text.fresh().bytes().len(), 0);
     text.push_three(b"", b" hours", b"\n")?;
     assert_eq!(rt; text.bytes(), b"LOLE 2.4 hours\n".as_slice());
-    let mut report = text.fresh();
-    let mut second = text.fresh();
-    second.push(b"EUE 9\n")?;
-    report.append(text)?;
-    report.append(second)?;
-    assert_eq!(rt; report.bytes(), b"LOLE 2.4 hours\nEUE 9\n".as_slice());
+    Ok(())
+}
+
+// A text takes another one in, whether it is empty itself or not.
+#[test]
+fn texts_in_texts(rt: HostRuntime) -> Result<(), Fail> {
+    let mut report = Text::new(rt.alloc());
+    for line in [b"LOLE 2.4\n", b"EUE 97.1\n"] {
+        let mut text = report.fresh();
+        text.push(line)?;
+        report.append(text)?;
+    }
+    assert_eq!(rt; report.bytes(), b"LOLE 2.4\nEUE 97.1\n".as_slice());
+    Ok(())
+}
+
+// Amounts are set one by one.
+#[test]
+fn amounts(rt: HostRuntime) -> Result<(), Fail> {
     let mut amounts = Amounts::zeros(rt.alloc(), 3)?;
     assert_eq!(rt; amounts.len(), 3);
     assert!(rt; !amounts.is_empty());

@@ -1,4 +1,5 @@
-use super::{
+use crate::answers::words_of;
+use adequacy::{
     Command, ConsoleTerms, CreditTerms, Line, Request, StudyTerms, TraceTerms, WordsError,
     put_word_fault, read_words,
 };
@@ -183,11 +184,7 @@ const FAULTS: [(&str, &str); 34] = [
 ];
 
 fn line_of(alloc: Global, text: &str) -> Result<Result<Line, WordsError>, Fail> {
-    let mut words = Vec::new(alloc);
-    for word in text.split(' ') {
-        words.push(String::from_str(alloc, word)?)?;
-    }
-    Ok(read_words(alloc, &words))
+    Ok(read_words(alloc, &words_of(alloc, text)?))
 }
 
 #[test]
